@@ -1,0 +1,9 @@
+-- Document 01, "What the contracts have to determine": any two outcomes that a contract allows are equal.
+-- Assumes nothing.
+use mathlib.Core.Path.{_≡_}
+
+-- What a function ensures is a claim on its lifetimes, its arguments, its result and what is lent to it at exit: its module's
+-- `Reads.Post`. Of a function that changes nothing lent to it: for all arguments the claim leaves one result.
+abbrev pub Determined : {K : Type 0} {A R E : K → Type 0} → ((κs : K) → A κs → R κs → E κs → Type 0) → Type 0
+Determined {K} {A} {R} {E} ensured =
+    (κs : K) (a : A κs) (x y : R κs) (at at′ : E κs) → ensured κs a x at → ensured κs a y at′ → x ≡ y
