@@ -1,6 +1,6 @@
 -- Laws on numbered checks: what an answer of `first` tells of the list, and how the answer is found.
 -- Assumes nothing.
-use mathlib.Core.Path.{_≡_, refl}
+use mathlib.Core.Path.{_≡_, refl, sym, _∙_}
 use mathlib.Core.Bool.{Bool, true, false, not, _&&_, cond}
 use mathlib.Core.List.{List, [], _∷_, _++_, append-nil}
 use Prim.Native.Nat.{ℕ, zero, suc}
@@ -87,3 +87,10 @@ first-left (c ∷ cs) ys h = same (c .ok) (first (cs ++ ys)) (first cs) (c .numb
 pub first-right : (xs ys : List Check) → Holds xs → first (xs ++ ys) ≡ first ys
 first-right [] ys h = refl
 first-right (c ∷ cs) ys h = holding (c .ok) (first (cs ++ ys)) (c .number) (first ys) (h .0) (first-right cs ys (h .1))
+
+-- ---- the same of an answer k that was found: it stands where it is none, and lets go on where it is 0
+pub stopped : {k : ℕ} (xs ys : List Check) → k ≡ first xs → ¬ (k ≡ 0) → k ≡ first (xs ++ ys)
+stopped xs ys e h = e ∙ sym (first-left xs ys (λ z. h (e ∙ z)))
+
+pub passed-on : {k : ℕ} (xs : List Check) → T (absent 0 xs) → k ≡ first xs → k ≡ 0 → Holds xs
+passed-on xs n e z = first→holds 0 xs n (sym e ∙ z) .0

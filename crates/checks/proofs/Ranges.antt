@@ -1,9 +1,10 @@
 -- From a statement on each number of a range to the statement on any: a case split that omega closes in one call.
 -- Assumes nothing.
-use mathlib.Core.Path.{_≡_, sym, subst}
+use mathlib.Core.Path.{_≡_, refl, sym, subst}
 use mathlib.Core.Logic.{⊎-elim}
 use Prim.Native.Nat.{ℕ, zero, suc, _+_, _≤_, _<_}
 use native.Mathlib.Nat.{eq-or-lt-of-le, le-of-suc-le-suc, not-suc-le-zero}
+use native.Mathlib.Decide.{decLt}
 use native.Mathlib.Omega.{arith}
 use Rattle.checks.specs.Ranges.{From}
 
@@ -22,3 +23,11 @@ pub from : (P : ℕ → Type 0) (i n : ℕ) → From P i n → (k : ℕ) → i �
 from P i zero b k l h = absurd (omega arith)
 from P i (suc n) b k l h =
     ⊎-elim (λ e. subst P e (b .0)) (λ m. from P (suc i) n (b .1) k m (omega arith)) (eq-or-lt-of-le l)
+
+-- what none of the arms 0 to n - 1 of a `match` took is n or more
+pub past-arms : (n p : ℕ) → Below (λ k. p ≡ k → ⊥) n → n ≤ p
+past-arms n p rest =
+    elim (decLt p n) [
+      | yes h ↦ absurd (below (λ k. p ≡ k → ⊥) n rest p h refl)
+      | no h ↦ omega arith
+    ]

@@ -1,0 +1,53 @@
+-- Laws on the answers: what is refused, what is no step, and that an accepted step keeps the clock within its 32 bits.
+-- Assumes nothing.
+use mathlib.Core.Path.{_≡_, refl}
+use mathlib.Core.Logic.{⊎-elim}
+use mathlib.Core.List.{[], _∷_, _++_}
+use Prim.Native.Nat.{ℕ, zero, suc, _≤_}
+use native.Mathlib.Omega.{arith}
+use types.Run.{OneOf}
+use denote.Enum.Declared.{tagOf}
+use Rattle.checks.proofs.Tests.{tests}
+use Rattle.checks.proofs.Checks.{first→holds}
+use Rattle.limits.specs.declared.Table.{Table}
+use Rattle.shift.specs.declared.State.{State}
+use Rattle.shift.specs.declared.Step.{Step}
+use Rattle.shift.specs.declared.Step.the-variants.{FromNeutral, GearToGear, ToNeutral, Deliver, DeviceGood, DeviceFailed, EngineWaits, Take, AskClutch, RaiseError, Finish, Tick}
+use Rattle.shift.specs.declared.Reading.{Reading}
+use Rattle.shift.specs.declared.Reading.the-variants.{Means, WrongCode, WrongAmount}
+use Rattle.shift.specs.declared.Answer.{Answer}
+use Rattle.shift.specs.Steps.{allowed, effect}
+use Rattle.shift.specs.Answers.{listed, refusal, checks, guard, refused, answer, judged, admitting}
+use Rattle.shift.proofs.Reading.{the-type}
+
+pub refuses : (k : ℕ) (next s : State) → ¬ (k ≡ 0) → refused k s ≡ answer k next s
+refuses zero next s h = absurd (h refl)
+refuses (suc k) next s h = refl
+
+pub breaks : (k : ℕ) (a : Answer) (s : State) → ¬ (k ≡ 0) → record { number = 4; rule = k; state = s } ≡ admitting k a s
+breaks zero a s h = absurd (h refl)
+breaks (suc k) a s h = refl
+
+-- a reading that is not the first of its kinds is refused by its own number
+pub no-step :
+    (t : Table) (s : State) (r : Reading) → OneOf (1 ∷ 2 ∷ []) (tagOf the-type r)
+    → refused (refusal r) s ≡ judged t s r
+no-step t s (Means x) o = absurd (⊎-elim (λ e. omega arith) (λ e. omega arith) o)
+no-step t s WrongCode o = refl
+no-step t s WrongAmount o = refl
+
+pub in-clock :
+    (t : Table) (s : State) (x : Step) → guard t s (Means x) ≡ 0 → s .clock ≤ 4294967295
+    → effect s x .clock ≤ 4294967295
+in-clock t s FromNeutral e h = h
+in-clock t s GearToGear e h = h
+in-clock t s ToNeutral e h = h
+in-clock t s Deliver e h = h
+in-clock t s DeviceGood e h = h
+in-clock t s DeviceFailed e h = h
+in-clock t s EngineWaits e h = h
+in-clock t s Take e h = h
+in-clock t s AskClutch e h = h
+in-clock t s RaiseError e h = h
+in-clock t s Finish e h = h
+in-clock t s (Tick n) e h = let a = first→holds 0 (checks t s (Means (Tick n))) tt e in omega (arith, tests)

@@ -1,0 +1,28 @@
+-- `State::may_fail` meets its contract: in the shift first, then the order.
+-- Assumes nothing.
+use mathlib.Core.Path.{sym}
+use mathlib.Core.List.{_++_}
+use native.Mathlib.Omega.{arith}
+use Rattle.checks.proofs.Tests.{tests}
+use Rattle.checks.proofs.Checks.{refused, holds→first, stopped, passed-on}
+use Rattle.shift.specs.Phases.{working}
+use Rattle.shift.specs.Steps.{shiftsIn, inDevice}
+use Rattle.shift.specs.Answers.{listed}
+use Rattle.shift.proofs.State.may_fail.Statement.{statement}
+use Rattle.shift.proofs.State.may_fail.Tie as tie
+
+pub may-fail-spec : {M : Type 1} → statement M
+may-fail-spec =
+    tie.close
+    (tie.spec
+    (λ _ _. tt)
+    (λ c. let a = c .before .before .args in stopped (listed (a .self) ++ shiftsIn (a .self) working) (inDevice (a .self)) (c .before .shifts-in .ensures) (c .if1 .taken))
+    (λ _ _. tt)
+    (λ c.
+    let a = c .before .before .before .before .args in
+    let l = passed-on (listed (a .self) ++ shiftsIn (a .self) working) tt (c .before .before .before .shifts-in .ensures) (c .before .before .if1 .left) in
+    sym (refused (listed (a .self) ++ shiftsIn (a .self) working ++ inDevice (a .self)) 6 (omega (arith, tests))))
+    (λ c.
+    let a = c .before .before .before .before .args in
+    let l = passed-on (listed (a .self) ++ shiftsIn (a .self) working) tt (c .before .before .before .shifts-in .ensures) (c .before .before .if1 .left) in
+    sym (holds→first (listed (a .self) ++ shiftsIn (a .self) working ++ inDevice (a .self)) (omega (arith, tests)))))

@@ -1,0 +1,25 @@
+-- `State::step` meets its contract: the table's broken rule first, then the answer to what the code and the amount mean.
+-- Assumes nothing.
+use Rattle.shift.specs.Answers.{judged, reading}
+use Rattle.shift.proofs.AnswerLaws.{breaks}
+use Rattle.shift.proofs.State.step.Statement.{statement}
+use Rattle.shift.proofs.State.step.Tie as tie
+
+returns : tie.Need-returns
+returns c =
+    let a = c .before .before .args in
+    let rule = c .before .broken-rule in
+    rw (← rule .ensures)
+    (breaks (rule .result) (judged (a .table) (a .self) (reading (a .code) (a .amount))) (a .self) (c .if1 .taken))
+
+returns-2 : tie.Need-returns-2
+returns-2 c =
+    rw (
+      ← c .before .before .before .broken-rule .ensures,
+      c .before .before .if1 .left,
+      c .judged .ensures,
+      c .before .of .ensures,
+    )
+
+pub step-spec : {M : Type 1} → statement M
+step-spec = tie.close (tie.spec (λ _ _. tt) returns (λ _ _. tt) (λ _ _. tt) returns-2)

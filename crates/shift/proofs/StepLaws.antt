@@ -1,0 +1,59 @@
+-- Laws on the steps: where a limit applies, and where 0 is held against it.
+-- Assumes nothing.
+use mathlib.Core.Path.{_≡_, sym}
+use mathlib.Core.Bool.{false, cond}
+use mathlib.Core.List.{[], _∷_}
+use Prim.Native.Nat.{ℕ, _≤_, _<_, zero-le}
+use native.Mathlib.Omega.{arith}
+use lib.Dec.{ltb}
+use lib.ListN.{getD}
+use borrow.Author.Tests.{le-leb, lt-leb, le-ltb}
+use Rattle.checks.proofs.Ranges.{from}
+use Rattle.shift.specs.declared.State.{State}
+use Rattle.shift.specs.Phases.{orderOf, unfinished, engine}
+use Rattle.shift.specs.Steps.{limited}
+
+-- 0 passes no limit
+pub free : (limit : ℕ) → false ≡ ltb limit 0
+free limit = sym (le-ltb limit 0 zero-le)
+
+-- ---- the phase limit, in phases 1 to 21
+module _ (p x : ℕ) where
+  pub shifting : 1 ≤ p → p ≤ 21 → cond (unfinished p) x 0 ≡ x
+  shifting l m = rw (le-leb 1 p l, le-leb p 21 m)
+
+  pub resting : p < 1 → cond (unfinished p) x 0 ≡ 0
+  resting l = rw (lt-leb 1 p l)
+
+  pub ended : 21 < p → cond (unfinished p) x 0 ≡ 0
+  ended m = rw (le-leb 1 p (omega arith), lt-leb p 21 m)
+
+-- ---- the channel's or the device's limit, there in stages 1 to 3
+module _ (s : State) (x : ℕ) where
+  pub limits : 1 ≤ s .phase → s .phase ≤ 21 → 1 ≤ s .stage → s .stage ≤ 3 → cond (limited s) x 0 ≡ x
+  limits l m i j = rw (le-leb 1 (s .phase) l, le-leb (s .phase) 21 m, le-leb 1 (s .stage) i, le-leb (s .stage) 3 j)
+
+  pub resting-free : s .phase < 1 → cond (limited s) x 0 ≡ 0
+  resting-free l = rw (lt-leb 1 (s .phase) l)
+
+  pub ended-free : 21 < s .phase → cond (limited s) x 0 ≡ 0
+  ended-free m = rw (le-leb 1 (s .phase) (omega arith), lt-leb (s .phase) 21 m)
+
+  pub none-free : 1 ≤ s .phase → s .phase ≤ 21 → s .stage < 1 → cond (limited s) x 0 ≡ 0
+  none-free l m i = rw (le-leb 1 (s .phase) l, le-leb (s .phase) 21 m, lt-leb 1 (s .stage) i)
+
+  pub late-free : 1 ≤ s .phase → s .phase ≤ 21 → 3 < s .stage → cond (limited s) x 0 ≡ 0
+  late-free l m j =
+      rw (le-leb 1 (s .phase) l, le-leb (s .phase) 21 m, le-leb 1 (s .stage) (omega arith), lt-leb (s .stage) 3 j)
+
+-- the channel's limit in stages 1 and 3
+pub by-channel : (ch device g : ℕ) → 1 ≤ g → g < 4 → ¬ (g ≡ 2) → getD (0 ∷ ch ∷ device ∷ ch ∷ []) g 0 ≡ ch
+by-channel ch device = from _ 1 3 (omega arith)
+
+-- ---- EX, in the engine phases
+module _ (p x : ℕ) where
+  pub in-engine : 1 ≤ orderOf p → orderOf p ≤ 2 → cond (engine p) x 0 ≡ x
+  in-engine l m = rw (le-leb 1 (orderOf p) l, le-leb (orderOf p) 2 m)
+
+  pub no-engine : 2 < orderOf p → cond (engine p) x 0 ≡ 0
+  no-engine m = rw (le-leb 1 (orderOf p) (omega arith), lt-leb (orderOf p) 2 m)

@@ -1,0 +1,99 @@
+-- Document 01, "Numbers for what is refused": one step on any given state and table.
+-- Assumes nothing.
+use mathlib.Core.Bool.{false, cond, _&&_}
+use mathlib.Core.List.{List, [], _∷_, _++_}
+use Prim.Native.Nat.{ℕ, zero, suc}
+use lib.Dec.{leb, eqb}
+use lib.ListN.{getD}
+use Rattle.checks.specs.Checks.{Check, _!_, first}
+use Rattle.limits.specs.declared.Table.{Table}
+use Rattle.limits.specs.Rules.{brokenRule}
+use Rattle.shift.specs.declared.State.{State}
+use Rattle.shift.specs.declared.Step.{Step}
+use Rattle.shift.specs.declared.Step.the-variants.{FromNeutral, GearToGear, ToNeutral, Deliver, DeviceGood, DeviceFailed, EngineWaits, Take, AskClutch, RaiseError, Finish, Tick}
+use Rattle.shift.specs.declared.Reading.{Reading}
+use Rattle.shift.specs.declared.Reading.the-variants.{Means, WrongCode, WrongAmount}
+use Rattle.shift.specs.declared.Answer.{Answer}
+use Rattle.shift.specs.Phases.{waiting, error}
+use Rattle.shift.specs.Steps.{allowed, effect}
+
+-- ---- what a code and an amount mean
+
+-- codes 1 to 11: the amount is 0
+abbrev pub plain : Step → ℕ → Reading
+plain x n = cond (eqb n 0) (Means x) WrongAmount
+
+-- code 12: the amount is 1 to 65,535
+abbrev pub ticking : ℕ → Reading
+ticking n = cond (leb 1 n && leb n 65535) (Means (Tick n)) WrongAmount
+
+-- by code, from 0
+abbrev pub readings : ℕ → List Reading
+readings n =
+    WrongCode
+    ∷ plain FromNeutral n
+    ∷ plain GearToGear n
+    ∷ plain ToNeutral n
+    ∷ plain Deliver n
+    ∷ plain DeviceGood n
+    ∷ plain DeviceFailed n
+    ∷ plain EngineWaits n
+    ∷ plain Take n
+    ∷ plain AskClutch n
+    ∷ plain RaiseError n
+    ∷ plain Finish n
+    ∷ ticking n
+    ∷ []
+
+abbrev pub reading : ℕ → ℕ → Reading
+reading code n = getD (readings n) code WrongCode
+
+-- the number of a reading that is no step
+abbrev pub refusal : Reading → ℕ
+refusal (Means x) = 0
+refusal WrongCode = 5
+refusal WrongAmount = 6
+
+-- ---- the checks, in the order of their numbers
+
+-- 7: the state has no phase above 23, no unlisted stage, no box above 1
+abbrev pub listed : State → List Check
+listed s = (leb (s .phase) error ! 7) ∷ (leb (s .stage) waiting ! 7) ∷ (leb (s .«gear_box») 1 ! 7) ∷ []
+
+abbrev pub checks : Table → State → Reading → List Check
+checks t s (Means x) = listed s ++ allowed t s x
+checks t s WrongCode = (false ! refusal WrongCode) ∷ []
+checks t s WrongAmount = (false ! refusal WrongAmount) ∷ []
+
+-- 0 where the step is accepted, else the number that refuses it
+abbrev pub guard : Table → State → Reading → ℕ
+guard t s r = first (checks t s r)
+
+-- the state that it leads to
+abbrev pub led : State → Reading → State
+led s (Means x) = effect s x
+led s WrongCode = s
+led s WrongAmount = s
+
+-- ---- the answer
+
+-- a refused step gives back the state it was given
+abbrev pub refused : ℕ → State → Answer
+refused number s = record { number = number; rule = 0; state = s }
+
+abbrev pub answer : ℕ → State → State → Answer
+answer zero next s = record { number = 0; rule = 0; state = next }
+answer (suc k) next s = refused (suc k) s
+
+-- under an admitted table
+abbrev pub judged : Table → State → Reading → Answer
+judged t s r = answer (guard t s r) (led s r) s
+
+-- 4, with the rule, comes before all else
+abbrev pub admitting : ℕ → Answer → State → Answer
+admitting zero a s = a
+admitting (suc k) a s = record { number = 4; rule = suc k; state = s }
+
+-- under any table
+abbrev pub stepOn : Table → State → ℕ → ℕ → Answer
+stepOn t s code n = admitting (brokenRule t) (judged t s (reading code n)) s

@@ -1,0 +1,170 @@
+// The shift machine of document 01: one step on any state, any table, any code and any amount.
+ghost use mathlib.Core.Path.{_≡_};
+ghost use Rattle.shift.specs.Phases.{start};
+ghost use Rattle.shift.specs.Answers.{plain, ticking, reading, refusal, refused, judged, stepOn};
+use limits::Table;
+
+mod effects;
+mod guards;
+mod phases;
+
+pub struct State {
+    pub clock: u32,
+    pub gear_box: u8,
+    pub phase: u8,
+    pub phase_time: u32,
+    pub stage: u8,
+    pub stage_time: u32,
+    pub request_time: u32,
+    pub failed_phase: u8,
+}
+
+// The twelve steps, in the order of their codes; a tick has its amount.
+pub enum Step {
+    FromNeutral,
+    GearToGear,
+    ToNeutral,
+    Deliver,
+    DeviceGood,
+    DeviceFailed,
+    EngineWaits,
+    Take,
+    AskClutch,
+    RaiseError,
+    Finish,
+    Tick(u32),
+}
+
+// What a code and an amount mean: a step, or refusal 5, or refusal 6.
+pub enum Reading {
+    Means(Step),
+    WrongCode,
+    WrongAmount,
+}
+
+// 0 and the state after the step, or the number that refuses it and the state that was given; the rule is 0 except with 4.
+pub struct Answer {
+    pub number: u8,
+    pub rule: u8,
+    pub state: State,
+}
+
+impl Step {
+    // What a code and an amount mean, for any of them.
+    pub fn of(code: u8, amount: u32) -> Reading
+        ensures { λ r. ⌜ r ≡ reading code amount ⌝ }
+    {
+        match code {
+            0 => Reading::WrongCode,
+            1 => plain(Step::FromNeutral, amount),
+            2 => plain(Step::GearToGear, amount),
+            3 => plain(Step::ToNeutral, amount),
+            4 => plain(Step::Deliver, amount),
+            5 => plain(Step::DeviceGood, amount),
+            6 => plain(Step::DeviceFailed, amount),
+            7 => plain(Step::EngineWaits, amount),
+            8 => plain(Step::Take, amount),
+            9 => plain(Step::AskClutch, amount),
+            10 => plain(Step::RaiseError, amount),
+            11 => plain(Step::Finish, amount),
+            12 => ticking(amount),
+            _ => Reading::WrongCode,
+        }
+    }
+}
+
+// A step other than a tick: its amount is 0.
+fn plain(x: Step, amount: u32) -> Reading
+    ensures { λ r. ⌜ r ≡ plain x amount ⌝ }
+{
+    if amount == 0 {
+        return Reading::Means(x);
+    }
+    Reading::WrongAmount
+}
+
+// A tick: its amount is 1 to 65,535.
+fn ticking(amount: u32) -> Reading
+    ensures { λ r. ⌜ r ≡ ticking amount ⌝ }
+{
+    if (1 <= amount) & (amount <= 65535) {
+        return Reading::Means(Step::Tick(amount));
+    }
+    Reading::WrongAmount
+}
+
+impl Reading {
+    // Refusal 5 or 6, 0 for a step.
+    fn refusal(self) -> u8
+        ensures { λ r. ⌜ r ≡ refusal self ⌝ }
+    {
+        match self {
+            Reading::Means(_) => 0,
+            Reading::WrongCode => 5,
+            Reading::WrongAmount => 6,
+        }
+    }
+}
+
+impl State {
+    // The state in which every vehicle starts.
+    pub fn start() -> State
+        ensures { λ r. ⌜ r ≡ start ⌝ }
+    {
+        State {
+            clock: 0,
+            gear_box: 0,
+            phase: 0,
+            phase_time: 0,
+            stage: 0,
+            stage_time: 0,
+            request_time: 0,
+            failed_phase: 0,
+        }
+    }
+
+    // One step on any state and table: refusals 4, 5, 6, 7, 8, 9, 10, and for a tick 4, 5, 6, 7, 13, 12, 11.
+    pub fn step(self, table: Table, code: u8, amount: u32) -> Answer
+        ensures { λ r. ⌜ r ≡ stepOn table self code amount ⌝ }
+    {
+        let rule = table.broken_rule();
+        if rule != 0 {
+            return Answer {
+                number: 4,
+                rule,
+                state: self,
+            };
+        }
+        self.judged(table, Step::of(code, amount))
+    }
+
+    // The same for what was read of a record, under a table that has been tested.
+    pub fn judged(self, table: Table, reading: Reading) -> Answer
+        ensures { λ r. ⌜ r ≡ judged table self reading ⌝ }
+    {
+        let Reading::Means(x) = reading else {
+            return self.refused(reading.refusal());
+        };
+        let number = self.guard(table, x);
+        if number != 0 {
+            return self.refused(number);
+        }
+        let next = self.effect(x);
+        Answer {
+            number: 0,
+            rule: 0,
+            state: next,
+        }
+    }
+
+    // A refused step gives back the state it was given.
+    fn refused(self, number: u8) -> Answer
+        ensures { λ r. ⌜ r ≡ refused number self ⌝ }
+    {
+        Answer {
+            number,
+            rule: 0,
+            state: self,
+        }
+    }
+}
