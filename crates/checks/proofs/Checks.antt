@@ -5,9 +5,9 @@ use mathlib.Core.Bool.{Bool, true, false, not, _&&_, cond}
 use mathlib.Core.List.{List, [], _∷_, _++_, append-nil}
 use Prim.Native.Nat.{ℕ, zero, suc}
 use lib.Dec.{T, eqb}
-use borrow.Author.Tests.{eqb-false, not-true}
+use borrow.Author.Tests.{eqb-true, eqb-false, not-true}
 use Rattle.checks.specs.Checks.{Check, first, Holds}
-use Rattle.checks.proofs.Tests.{passed}
+use Rattle.checks.proofs.Tests.{passed, case}
 
 -- ---- both of two tests
 pub left : (a b : Bool) → T (a && b) → T a
@@ -88,9 +88,11 @@ pub first-right : (xs ys : List Check) → Holds xs → first (xs ++ ys) ≡ fir
 first-right [] ys h = refl
 first-right (c ∷ cs) ys h = holding (c .ok) (first (cs ++ ys)) (c .number) (first ys) (h .0) (first-right cs ys (h .1))
 
--- ---- the same of an answer k that was found: it stands where it is none, and lets go on where it is 0
-pub stopped : {k : ℕ} (xs ys : List Check) → k ≡ first xs → ¬ (k ≡ 0) → k ≡ first (xs ++ ys)
-stopped xs ys e h = e ∙ sym (first-left xs ys (λ z. h (e ∙ z)))
-
-pub passed-on : {k : ℕ} (xs : List Check) → T (absent 0 xs) → k ≡ first xs → k ≡ 0 → Holds xs
-passed-on xs n e z = first→holds 0 xs n (sym e ∙ z) .0
+-- the same of two answers that were found, of which the first that is not 0 is taken
+pub joined :
+    {k m r : ℕ} (xs ys : List Check) → T (absent 0 xs) → k ≡ first xs → m ≡ first ys → r ≡ cond (eqb k 0) m k
+    → r ≡ first (xs ++ ys)
+joined {k} {m} {r} xs ys n e f g =
+    case (eqb k 0)
+    (λ z. g ∙ rw z (f ∙ sym (first-right xs ys (first→holds 0 xs n (sym e ∙ eqb-true k 0 z) .0))))
+    (λ z. g ∙ rw z (e ∙ sym (first-left xs ys (λ q. eqb-false k 0 z (e ∙ q)))))

@@ -31,6 +31,29 @@ entries t =
 abbrev pub entry : Table → ℕ → ℕ
 entry t i = getD (entries t) i 0
 
+-- the table of eighteen entries
+abbrev pub tableOf : List ℕ → Table
+tableOf es = record {
+  «channel_dl» = getD es 0 0;
+  «engine_sync_dl» = getD es 1 0;
+  «engine_zero_dl» = getD es 2 0;
+  «clutch_open_dl» = getD es 3 0;
+  «clutch_close_dl» = getD es 4 0;
+  «gear_set_dl» = getD es 5 0;
+  «gear_release_dl» = getD es 6 0;
+  «sync_ex» = getD es 7 0;
+  «zero_ex» = getD es 8 0;
+  «sync_dl» = getD es 9 0;
+  «zero_dl» = getD es 10 0;
+  «sync_de» = getD es 11 0;
+  «zero_de» = getD es 12 0;
+  «open_clutch_dl» = getD es 13 0;
+  «set_gear_dl» = getD es 14 0;
+  «release_dl» = getD es 15 0;
+  «close_clutch_dl» = getD es 16 0;
+  «change_dl» = getD es 17 0;
+}
+
 abbrev pub default : Table
 default = record {
   «channel_dl» = 5;

@@ -24,6 +24,10 @@ pub refuses : (k : ℕ) (next s : State) → ¬ (k ≡ 0) → refused k s ≡ an
 refuses zero next s h = absurd (h refl)
 refuses (suc k) next s h = refl
 
+pub accepts : (k : ℕ) (next s : State) → k ≡ 0 → record { number = 0; rule = 0; state = next } ≡ answer k next s
+accepts zero next s h = refl
+accepts (suc k) next s h = absurd (omega arith)
+
 pub breaks : (k : ℕ) (a : Answer) (s : State) → ¬ (k ≡ 0) → record { number = 4; rule = k; state = s } ≡ admitting k a s
 breaks zero a s h = absurd (h refl)
 breaks (suc k) a s h = refl

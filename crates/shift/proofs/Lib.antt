@@ -1,3 +1,3 @@
-pub mod PhaseLaws
 pub mod StepLaws
 pub mod AnswerLaws
+pub mod Determined

@@ -10,7 +10,7 @@ use lib.ListN.{getD}
 use borrow.Author.Tests.{le-leb, lt-leb, le-ltb}
 use Rattle.checks.proofs.Ranges.{from}
 use Rattle.shift.specs.declared.State.{State}
-use Rattle.shift.specs.Phases.{orderOf, unfinished, engine}
+use Rattle.phases.specs.Phases.{orderOf, unfinished, engine}
 use Rattle.shift.specs.Steps.{limited}
 
 -- 0 passes no limit
@@ -57,3 +57,6 @@ module _ (p x : ℕ) where
 
   pub no-engine : 2 < orderOf p → cond (engine p) x 0 ≡ 0
   no-engine m = rw (le-leb 1 (orderOf p) (omega arith), lt-leb (orderOf p) 2 m)
+
+  pub no-order : orderOf p < 1 → cond (engine p) x 0 ≡ 0
+  no-order l = rw (lt-leb 1 (orderOf p) l)

@@ -14,7 +14,8 @@ use Rattle.shift.specs.declared.Step.the-variants.{FromNeutral, GearToGe
 use Rattle.shift.specs.declared.Reading.{Reading}
 use Rattle.shift.specs.declared.Reading.the-variants.{Means, WrongCode, WrongAmount}
 use Rattle.shift.specs.declared.Answer.{Answer}
-use Rattle.shift.specs.Phases.{waiting, error}
+use Rattle.phases.specs.Phases.{error}
+use Rattle.shift.specs.States.{waiting}
 use Rattle.shift.specs.Steps.{allowed, effect}
 
 -- ---- what a code and an amount mean

@@ -1,3 +1,5 @@
-pub mod Phases
+pub mod States
 pub mod Steps
 pub mod Answers
+pub mod Runs
+pub mod KnownRuns

@@ -10,7 +10,8 @@ use Rattle.limits.specs.declared.Table.{Table}
 use Rattle.shift.specs.declared.State.{State}
 use Rattle.shift.specs.declared.Step.{Step}
 use Rattle.shift.specs.declared.Step.the-variants.{FromNeutral, GearToGear, ToNeutral, Deliver, DeviceGood, DeviceFailed, EngineWaits, Take, AskClutch, RaiseError, Finish, Tick}
-use Rattle.shift.specs.Phases.{neutral, inGear, sent, working, good, failed, waiting, zeroTorque, atRest, done, error, orderOf, nextOf, clutchOf, deviceLimit, phaseLimit, latestTake, earliestAsk, unfinished, engine, entered}
+use Rattle.phases.specs.Phases.{zeroTorque, atRest, done, error, orderOf, nextOf, clutchOf, deviceLimit, phaseLimit, latestTake, earliestAsk, unfinished, engine}
+use Rattle.shift.specs.States.{neutral, inGear, sent, working, good, failed, waiting, entered}
 
 -- ---- allowed when
 
@@ -29,13 +30,19 @@ inEngine s = (leb (orderOf (s .phase)) zeroTorque ! 7) ∷ []
 abbrev pub inDevice : State → List Check
 inDevice s = (ltb zeroTorque (orderOf (s .phase)) ! 7) ∷ []
 
--- In sync or zero torque phases clock ≤ phase time + that EX. Here and below: where a limit does not apply, 0 is held against it.
+-- in sync or zero torque phases clock ≤ phase time + that EX. Here and below: where a limit does not apply, 0 is held against it
+abbrev pub takeBound : Table → State → ℕ
+takeBound t s = s .«phase_time» + latestTake t (orderOf (s .phase))
+
 abbrev pub inTakeTime : Table → State → List Check
-inTakeTime t s = (leb (cond (engine (s .phase)) (s .clock) 0) (s .«phase_time» + latestTake t (orderOf (s .phase))) ! 10) ∷ []
+inTakeTime t s = (leb (cond (engine (s .phase)) (s .clock) 0) (takeBound t s) ! 10) ∷ []
 
 -- clock ≥ phase time + that DE
+abbrev pub askBound : Table → State → ℕ
+askBound t s = s .«phase_time» + earliestAsk t (orderOf (s .phase))
+
 abbrev pub inAskTime : Table → State → List Check
-inAskTime t s = (leb (s .«phase_time» + earliestAsk t (orderOf (s .phase))) (s .clock) ! 9) ∷ []
+inAskTime t s = (leb (askBound t s) (s .clock) ! 9) ∷ []
 
 -- In phases 1 to 21 the new clock of a tick may not pass stage time + Ch (stages sent and good), stage time + device limit
 -- (working), nor phase time + phase limit (any stage). Equal is allowed.
@@ -60,6 +67,10 @@ inTickTime t s now =
     ∷ (leb (cond (unfinished (s .phase)) now 0) (phaseBound t s) ! 11)
     ∷ []
 
+-- phase 22
+abbrev pub isDone : State → List Check
+isDone s = (eqb (s .phase) done ! 7) ∷ []
+
 abbrev pub allowed : Table → State → Step → List Check
 allowed t s FromNeutral = restsIn s neutral
 allowed t s GearToGear = restsIn s inGear
@@ -71,7 +82,7 @@ allowed t s EngineWaits = shiftsIn s working ++ inEngine s
 allowed t s Take = shiftsIn s good ++ inTakeTime t s
 allowed t s AskClutch = shiftsIn s waiting ++ (inEngine s ++ inAskTime t s)
 allowed t s RaiseError = shiftsIn s failed
-allowed t s Finish = (eqb (s .phase) done ! 7) ∷ []
+allowed t s Finish = isDone s
 allowed t s (Tick n) = inTickTime t s (s .clock + n)
 
 -- ---- effect: what a step doesn't name, it keeps

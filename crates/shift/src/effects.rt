@@ -2,12 +2,12 @@
 ghost use mathlib.Core.Path.{_≡_};
 ghost use mathlib.Core.Bool.{cond};
 ghost use Prim.Native.Nat.{_+_, _≤_};
-ghost use Rattle.shift.specs.Phases.{boxIn, entered};
+ghost use Rattle.shift.specs.States.{boxIn, entered};
 ghost use Rattle.shift.specs.Steps.{requested, staged, ticked, effect};
 use crate::State;
 use crate::Step;
-use crate::phases::is_unfinished;
-use crate::phases::row_of;
+use phases::is_unfinished;
+use phases::row_of;
 
 // x where b holds, else y.
 fn pick8(b: bool, x: u8, y: u8) -> u8

@@ -1,12 +1,11 @@
 // The shift machine of document 01: one step on any state, any table, any code and any amount.
 ghost use mathlib.Core.Path.{_≡_};
-ghost use Rattle.shift.specs.Phases.{start};
+ghost use Rattle.shift.specs.States.{start};
 ghost use Rattle.shift.specs.Answers.{plain, ticking, reading, refusal, refused, judged, stepOn};
 use limits::Table;
 
 mod effects;
 mod guards;
-mod phases;
 
 pub struct State {
     pub clock: u32,

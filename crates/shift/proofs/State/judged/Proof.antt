@@ -4,7 +4,7 @@ use mathlib.Core.Path.{sym, _∙_}
 use native.Mathlib.Omega.{arith}
 use borrow.Author.Needs.{needs}
 use Rattle.shift.specs.Steps.{effect}
-use Rattle.shift.proofs.AnswerLaws.{refuses, no-step, in-clock}
+use Rattle.shift.proofs.AnswerLaws.{refuses, accepts, no-step, in-clock}
 use Rattle.shift.proofs.State.judged.Statement.{statement}
 use Rattle.shift.proofs.State.judged.Tie as tie
 
@@ -30,12 +30,9 @@ effect-requires c κs =
 
 returns-3 : tie.Need-returns-3
 returns-3 c =
-    rw (
-      c .before .before .before .before .reading .given .1,
-      ← c .before .before .guard .ensures,
-      c .before .if1 .left,
-      c .effect .ensures,
-    )
+    let number = c .before .before .guard in
+    rw (c .before .before .before .before .reading .given .1, ← number .ensures, ← c .effect .ensures)
+    (accepts (number .result) (c .effect .result) (c .before .before .before .before .before .before .args .self) (c .before .if1 .left))
 
 pub judged-spec : {M : Type 1} → statement M
 judged-spec =

@@ -5,6 +5,16 @@ use Rattle.shift.proofs.StepLaws.{free, shifting, resting, ended}
 use Rattle.shift.proofs.State.passes_phase.Statement.{statement}
 use Rattle.shift.proofs.State.passes_phase.Tie as tie
 
+returns-3 : tie.Need-returns-3
+returns-3 c =
+    let a = c .before .before .before .before .before .args in
+    rw (
+      shifting (a .self .phase) (a .now) (c .before .before .before .before .if1 .left) (c .before .before .before .if2 .left),
+      c .passes .ensures,
+      c .before .phase-limit .ensures,
+      c .before .before .order-of .ensures,
+    )
+
 pub passes-phase-spec : {M : Type 1} → statement M
 passes-phase-spec =
     tie.close
@@ -14,11 +24,4 @@ passes-phase-spec =
     (λ _ _. tt)
     (λ _ _. tt)
     (λ _ _. tt)
-    (λ c.
-    let a = c .before .before .before .before .before .args in
-    rw (
-      shifting (a .self .phase) (a .now) (c .before .before .before .before .if1 .left) (c .before .before .before .if2 .left),
-      c .bound .ensures,
-      c .before .phase-limit .ensures,
-      c .before .before .order-of .ensures,
-    )))
+    returns-3)

@@ -1,4 +1,4 @@
--- `State::unlisted` meets its contract: one return for each check.
+-- `State::unlisted` meets its contract: one return for each check, and one where all hold.
 -- Assumes nothing.
 use mathlib.Core.Path.{sym}
 use native.Mathlib.Omega.{arith}
@@ -12,7 +12,7 @@ pub unlisted-spec : {M : Type 1} → statement M
 unlisted-spec =
     tie.close
     (tie.spec
-    (λ c. let s = c .before .before .args .self in sym (refused (listed s) 0 (omega (arith, tests))))
-    (λ c. let s = c .before .before .before .before .args .self in sym (refused (listed s) 1 (omega (arith, tests))))
-    (λ c. let s = c .before .before .before .before .before .before .args .self in sym (refused (listed s) 2 (omega (arith, tests))))
-    (λ c. let s = c .before .before .before .before .before .before .args .self in sym (holds→first (listed s) (omega (arith, tests)))))
+    (λ c. let a = c .before .args in sym (refused (listed (a .self)) 0 (omega (arith, tests))))
+    (λ c. let a = c .before .before .args in sym (refused (listed (a .self)) 1 (omega (arith, tests))))
+    (λ c. let a = c .before .before .before .args in sym (refused (listed (a .self)) 2 (omega (arith, tests))))
+    (λ c. let a = c .before .before .before .args in sym (holds→first (listed (a .self)) (omega (arith, tests)))))

@@ -1,0 +1,32 @@
+-- Any two outcomes that a public contract of this crate allows are equal.
+-- Assumes nothing.
+use mathlib.Core.Path.{sym, _∙_}
+use Rattle.checks.specs.Determined.{Determined}
+use Rattle.phases.proofs.row_of.Reads as row-of-reads
+use Rattle.phases.proofs.order_of.Reads as order-of-reads
+use Rattle.phases.proofs.device_limit.Reads as device-limit-reads
+use Rattle.phases.proofs.phase_limit.Reads as phase-limit-reads
+use Rattle.phases.proofs.latest_take.Reads as latest-take-reads
+use Rattle.phases.proofs.earliest_ask.Reads as earliest-ask-reads
+use Rattle.phases.proofs.is_unfinished.Reads as is-unfinished-reads
+
+pub row-of : Determined row-of-reads.Post
+row-of κs a x y at at′ p q = p ∙ sym q
+
+pub order-of : Determined order-of-reads.Post
+order-of κs a x y at at′ p q = p ∙ sym q
+
+pub device-limit : Determined device-limit-reads.Post
+device-limit κs a x y at at′ p q = p ∙ sym q
+
+pub phase-limit : Determined phase-limit-reads.Post
+phase-limit κs a x y at at′ p q = p ∙ sym q
+
+pub latest-take : Determined latest-take-reads.Post
+latest-take κs a x y at at′ p q = p ∙ sym q
+
+pub earliest-ask : Determined earliest-ask-reads.Post
+earliest-ask κs a x y at at′ p q = p ∙ sym q
+
+pub is-unfinished : Determined is-unfinished-reads.Post
+is-unfinished κs a x y at at′ p q = p ∙ sym q

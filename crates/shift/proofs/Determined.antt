@@ -1,0 +1,20 @@
+-- Any two outcomes that a public contract of this crate allows are equal.
+-- Assumes nothing.
+use mathlib.Core.Path.{sym, _∙_}
+use Rattle.checks.specs.Determined.{Determined}
+use Rattle.shift.proofs.State.start.Reads as start-reads
+use Rattle.shift.proofs.State.step.Reads as step-reads
+use Rattle.shift.proofs.State.judged.Reads as judged-reads
+use Rattle.shift.proofs.Step.of.Reads as of-reads
+
+pub start : Determined start-reads.Post
+start κs a x y at at′ p q = p ∙ sym q
+
+pub step : Determined step-reads.Post
+step κs a x y at at′ p q = p ∙ sym q
+
+pub judged : Determined judged-reads.Post
+judged κs a x y at at′ p q = p ∙ sym q
+
+pub of : Determined of-reads.Post
+of κs a x y at at′ p q = p ∙ sym q

@@ -1,0 +1,25 @@
+-- Document 01: a list of steps is accepted when each step is, one after the other from the start state; else it is refused at the
+-- first that is not, with its index from 0, its number and the state before it.
+-- Assumes nothing.
+use mathlib.Core.List.{List, [], _∷_}
+use Prim.Native.Nat.{ℕ, zero, suc}
+use Rattle.limits.specs.declared.Table.{Table}
+use Rattle.shift.specs.declared.State.{State}
+use Rattle.shift.specs.declared.Reading.{Reading}
+use Rattle.shift.specs.Answers.{guard, led}
+
+-- how many were accepted, which is the index of the refused one; its number, or 0; the state after those accepted
+pub record Outcome : Type 0 where
+  pub count : ℕ
+  pub number : ℕ
+  pub state : State
+
+-- of a step that the guard answers so in the state s, and of the rest from the state that it leads to
+abbrev pub after : ℕ → State → Outcome → Outcome
+after zero s rest = record { count = suc (rest .count); number = rest .number; state = rest .state }
+after (suc k) s rest = record { count = 0; number = suc k; state = s }
+
+-- from any state, under an admitted table; what a list holds is what was read of each record
+abbrev pub run : Table → State → List Reading → Outcome
+run t s [] = record { count = 0; number = 0; state = s }
+run t s (r ∷ rs) = let rest = run t (led s r) rs in after (guard t s r) s rest

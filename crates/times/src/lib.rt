@@ -1,0 +1,32 @@
+// Times against limits: sums are compared, without wrapping, and never differences.
+ghost use mathlib.Core.Path.{_≡_};
+ghost use Prim.Native.Nat.{_+_};
+ghost use lib.Dec.{ltb};
+
+// The clock after a tick.
+pub fn ticked(clock: u32, amount: u32) -> u64
+    ensures { λ r. ⌜ r ≡ clock + amount ⌝ }
+{
+    clock as u64 + (amount as u64)
+}
+
+// A tick to `now` passes the limit that runs from `time`. Equal is allowed.
+pub fn passes(now: u64, time: u32, limit: u16) -> bool
+    ensures { λ r. ⌜ r ≡ ltb (time + limit) now ⌝ }
+{
+    time as u64 + (limit as u64) < now
+}
+
+// A take is too late for the EX that runs from `time`. Equal is allowed.
+pub fn is_late(clock: u32, time: u32, ex: u16) -> bool
+    ensures { λ r. ⌜ r ≡ ltb (time + ex) clock ⌝ }
+{
+    time as u64 + (ex as u64) < clock as u64
+}
+
+// Asking for the clutch is too early for the DE that runs from `time`. Equal is allowed.
+pub fn is_early(clock: u32, time: u32, de: u16) -> bool
+    ensures { λ r. ⌜ r ≡ ltb clock (time + de) ⌝ }
+{
+    (clock as u64) < time as u64 + (de as u64)
+}
