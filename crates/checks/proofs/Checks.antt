@@ -7,16 +7,7 @@ use Prim.Native.Nat.{ℕ, zero, suc}
 use lib.Dec.{T, eqb}
 use borrow.Author.Tests.{eqb-true, eqb-false, not-true}
 use Rattle.checks.specs.Checks.{Check, first, Holds}
-use Rattle.checks.proofs.Tests.{passed, case}
-
--- ---- both of two tests
-pub left : (a b : Bool) → T (a && b) → T a
-left true b t = tt
-left false b t = t
-
-pub right : (a b : Bool) → T (a && b) → T b
-right true b t = t
-right false b t = absurd t
+use Rattle.checks.proofs.Tests.{passed, case, left, right}
 
 -- ---- a list that holds answers 0
 holding : (b : Bool) (m n k : ℕ) → T b → m ≡ k → cond b m n ≡ k

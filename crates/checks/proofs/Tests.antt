@@ -1,7 +1,8 @@
 -- For omega: a test on numbers, or its failure, is read as its fact and shown from it.
 -- Assumes nothing.
 use mathlib.Core.Path.{_≡_, refl, sym, subst}
-use mathlib.Core.Bool.{Bool, true, false, not}
+use mathlib.Core.Logic.{_⊎_, inl, inr}
+use mathlib.Core.Bool.{Bool, true, false, not, _&&_, _||_}
 use Prim.Native.Nat.{ℕ, _<_}
 use lib.Dec.{T, leb, eqb, leb→le, le→leb, eqb→eq, eqb-refl, nleb→lt, T-not}
 use borrow.Author.Tests.{lt-leb, ne-eqb}
@@ -32,3 +33,16 @@ passes b e = subst T (sym e) tt
 pub case : {A : Type 0} (b : Bool) → (b ≡ true → A) → (b ≡ false → A) → A
 case true f g = f refl
 case false f g = g refl
+
+-- both of two tests, and one of two
+pub left : (a b : Bool) → T (a && b) → T a
+left true b t = tt
+left false b t = t
+
+pub right : (a b : Bool) → T (a && b) → T b
+right true b t = t
+right false b t = absurd t
+
+pub either : (a b : Bool) → T (a || b) → T a ⊎ T b
+either true b t = inl tt
+either false b t = inr t

@@ -1,14 +1,16 @@
 -- Laws on the steps: where a limit applies, and where 0 is held against it.
 -- Assumes nothing.
 use mathlib.Core.Path.{_≡_, sym}
-use mathlib.Core.Bool.{false, cond}
+use mathlib.Core.Bool.{false, cond, _&&_}
 use mathlib.Core.List.{[], _∷_}
 use Prim.Native.Nat.{ℕ, _≤_, _<_, zero-le}
 use native.Mathlib.Omega.{arith}
-use lib.Dec.{ltb}
+use lib.Dec.{T, leb, ltb, leb→le}
 use lib.ListN.{getD}
 use borrow.Author.Tests.{le-leb, lt-leb, le-ltb}
+use Rattle.checks.proofs.Tests.{left, right}
 use Rattle.checks.proofs.Ranges.{from}
+use Rattle.phases.proofs.PhaseLaws.{unfinished-in}
 use Rattle.shift.specs.declared.State.{State}
 use Rattle.phases.specs.Phases.{orderOf, unfinished, engine}
 use Rattle.shift.specs.Steps.{limited}
@@ -45,6 +47,17 @@ module _ (s : State) (x : ℕ) where
   pub late-free : 1 ≤ s .phase → s .phase ≤ 21 → 3 < s .stage → cond (limited s) x 0 ≡ 0
   late-free l m j =
       rw (le-leb 1 (s .phase) l, le-leb (s .phase) 21 m, le-leb 1 (s .stage) (omega arith), lt-leb (s .stage) 3 j)
+
+-- where it applies
+pub limited-in : (s : State) → T (limited s) → (1 ≤ s .phase) × (s .phase ≤ 21) × (1 ≤ s .stage) × (s .stage ≤ 3)
+limited-in s h =
+    let p = unfinished-in (s .phase) (left (unfinished (s .phase)) (leb 1 (s .stage) && leb (s .stage) 3) h) in
+    let g = right (unfinished (s .phase)) (leb 1 (s .stage) && leb (s .stage) 3) h in (
+      p .0,
+      p .1,
+      leb→le 1 (s .stage) (left (leb 1 (s .stage)) (leb (s .stage) 3) g),
+      leb→le (s .stage) 3 (right (leb 1 (s .stage)) (leb (s .stage) 3) g),
+    )
 
 -- the channel's limit in stages 1 and 3
 pub by-channel : (ch device g : ℕ) → 1 ≤ g → g < 4 → ¬ (g ≡ 2) → getD (0 ∷ ch ∷ device ∷ ch ∷ []) g 0 ≡ ch

@@ -1,0 +1,6 @@
+pub mod Promises
+pub mod Runs
+pub mod Looser
+pub mod Ages
+pub mod Permitted
+pub mod Exactly

@@ -1,0 +1,83 @@
+-- Laws on runs: what an accepted step tells, what every step keeps, and a list in two pieces.
+-- Assumes nothing.
+use mathlib.Core.Path.{_≡_, refl}
+use mathlib.Core.List.{List, [], _∷_, _++_}
+use Prim.Native.Nat.{ℕ, zero, suc, _+_}
+use native.Mathlib.Nat.{zero-add, suc-add}
+use native.Mathlib.Omega.{arith}
+use lib.Dec.{T}
+use Rattle.checks.specs.Checks.{Holds}
+use Rattle.checks.proofs.Checks.{absent, first→holds}
+use Rattle.limits.specs.declared.Table.{Table}
+use Rattle.shift.specs.declared.State.{State}
+use Rattle.shift.specs.declared.Reading.{Reading}
+use Rattle.shift.specs.declared.Reading.the-variants.{Means, WrongCode, WrongAmount}
+use Rattle.shift.specs.declared.Step.{Step}
+use Rattle.shift.specs.declared.Step.the-variants.{FromNeutral, GearToGear, ToNeutral, Deliver, DeviceGood, DeviceFailed, EngineWaits, Take, AskClutch, RaiseError, Finish, Tick}
+use Rattle.shift.specs.Answers.{checks, guard, led}
+use Rattle.shift.specs.Runs.{Outcome, after, run}
+use Rattle.promises.specs.Verdicts.{resumed, joined}
+
+-- no check has the number 0
+numbered-from-5 : (t : Table) (s : State) (x : Step) → T (absent 0 (checks t s (Means x)))
+numbered-from-5 t s FromNeutral = tt
+numbered-from-5 t s GearToGear = tt
+numbered-from-5 t s ToNeutral = tt
+numbered-from-5 t s Deliver = tt
+numbered-from-5 t s DeviceGood = tt
+numbered-from-5 t s DeviceFailed = tt
+numbered-from-5 t s EngineWaits = tt
+numbered-from-5 t s Take = tt
+numbered-from-5 t s AskClutch = tt
+numbered-from-5 t s RaiseError = tt
+numbered-from-5 t s Finish = tt
+numbered-from-5 t s (Tick n) = tt
+
+-- of an accepted step all checks hold
+pub checked : (t : Table) (s : State) (x : Step) → guard t s (Means x) ≡ 0 → Holds (checks t s (Means x))
+checked t s x e = first→holds 0 (checks t s (Means x)) (numbered-from-5 t s x) e .0
+
+-- what every accepted step is shown to have, every accepted reading has
+pub each-step :
+    (P : Reading → Type 0) (t : Table) (s : State) → ((x : Step) → Holds (checks t s (Means x)) → P (Means x))
+    → (r : Reading) → guard t s r ≡ 0 → P r
+each-step P t s f (Means x) e = f x (checked t s x e)
+each-step P t s f WrongCode e = absurd (omega arith)
+each-step P t s f WrongAmount e = absurd (omega arith)
+
+-- a run that is accepted accepted its first step, and the rest
+pub went-on : (k : ℕ) (s : State) (rest : Outcome) → after k s rest .number ≡ 0 → (k ≡ 0) × (rest .number ≡ 0)
+went-on zero s rest e = (refl, e)
+went-on (suc k) s rest e = absurd (omega arith)
+
+-- ---- a list in two pieces
+resumes : (s : State) (k : ℕ) (a b : Outcome) → after 0 s (resumed k a b) ≡ resumed k (after 0 s a) b
+resumes s zero a b = rw suc-add
+resumes s (suc k) a b = refl
+
+pub pieces :
+    (t : Table) (s : State) (xs ys : List Reading) → run t s (xs ++ ys) ≡ joined (run t s xs) (run t (run t s xs .state) ys)
+pieces t s [] ys = rw zero-add
+pieces t s (x ∷ xs) ys = go (guard t s x) (pieces t (led s x) xs ys)
+  where
+    go :
+        (k : ℕ)
+        → run t (led s x) (xs ++ ys) ≡ joined (run t (led s x) xs) (run t (run t (led s x) xs .state) ys)
+        → after k s (run t (led s x) (xs ++ ys))
+        ≡ joined (after k s (run t (led s x) xs)) (run t (after k s (run t (led s x) xs) .state) ys)
+    go zero e =
+        let a = run t (led s x) xs in
+        rw e (resumes s (a .number) a (run t (a .state) ys))
+    go (suc k) e = refl
+
+both-accepted : (k : ℕ) (a b : Outcome) → a .number ≡ k → resumed k a b .number ≡ 0 → (a .number ≡ 0) × (b .number ≡ 0)
+both-accepted zero a b e h = (e, h)
+both-accepted (suc k) a b e h = absurd (omega arith)
+
+-- a beginning of an accepted list is accepted, and so is the rest from where it ended
+pub beginning :
+    (t : Table) (s : State) (xs ys : List Reading) → run t s (xs ++ ys) .number ≡ 0
+    → (run t s xs .number ≡ 0) × (run t (run t s xs .state) ys .number ≡ 0)
+beginning t s xs ys h =
+    let a = run t s xs in
+    both-accepted (a .number) a (run t (a .state) ys) refl (rw (pieces t s xs ys) at h)

@@ -1,0 +1,66 @@
+-- Document 01, "The twelve steps", a second time and in its own words: the column "allowed when" as a relation, beside the list of
+-- checks that `shift` has. The engine phases, and which of them sync and which zero torque, stand here by their numbers.
+-- Assumes nothing.
+use mathlib.Core.Path.{_≡_}
+use mathlib.Core.Logic.{_⊎_}
+use Prim.Native.Nat.{ℕ, _+_, _≤_}
+use Rattle.limits.specs.declared.Table.{Table}
+use Rattle.phases.specs.Phases.{orderOf, deviceLimit, phaseLimit}
+use Rattle.shift.specs.declared.State.{State}
+use Rattle.shift.specs.declared.Reading.{Reading}
+use Rattle.shift.specs.declared.Reading.the-variants.{Means, WrongCode, WrongAmount}
+use Rattle.shift.specs.declared.Step.{Step}
+use Rattle.shift.specs.declared.Step.the-variants.{FromNeutral, GearToGear, ToNeutral, Deliver, DeviceGood, DeviceFailed, EngineWaits, Take, AskClutch, RaiseError, Finish, Tick}
+
+-- a phase up to 23, a stage up to waiting, the box neutral or in gear
+pub record Listed (s : State) : Type 0 where
+  pub phase : s .phase ≤ 23
+  pub stage : s .stage ≤ 5
+  pub box : s .«gear_box» ≤ 1
+
+-- phase 1 to 21
+abbrev pub Shifting : State → Type 0
+Shifting s = (1 ≤ s .phase) × (s .phase ≤ 21)
+
+abbrev pub Syncing : State → Type 0
+Syncing s = (s .phase ≡ 1) ⊎ (s .phase ≡ 10)
+
+abbrev pub Zeroing : State → Type 0
+Zeroing s = (s .phase ≡ 6) ⊎ (s .phase ≡ 17)
+
+abbrev pub Engine : State → Type 0
+Engine s = Syncing s ⊎ Zeroing s
+
+-- in phases 1 to 21 the new clock does not pass stage time + Ch in stages sent and good, stage time + device limit in stage
+-- working, phase time + phase limit in any stage
+pub record InTime (t : Table) (s : State) (now : ℕ) : Type 0 where
+  pub channel : (s .stage ≡ 1) ⊎ (s .stage ≡ 3) → now ≤ s .«stage_time» + t .«channel_dl»
+  pub device : s .stage ≡ 2 → now ≤ s .«stage_time» + deviceLimit t (orderOf (s .phase))
+  pub phase : now ≤ s .«phase_time» + phaseLimit t (orderOf (s .phase))
+
+abbrev pub Allowed : Table → State → Step → Type 0
+Allowed t s FromNeutral = (s .phase ≡ 0) × (s .«gear_box» ≡ 0)
+Allowed t s GearToGear = (s .phase ≡ 0) × (s .«gear_box» ≡ 1)
+Allowed t s ToNeutral = (s .phase ≡ 0) × (s .«gear_box» ≡ 1)
+Allowed t s Deliver = Shifting s × (s .stage ≡ 1)
+Allowed t s DeviceGood = Shifting s × (s .stage ≡ 2)
+Allowed t s DeviceFailed = Shifting s × (s .stage ≡ 2) × ¬ Engine s
+Allowed t s EngineWaits = Engine s × (s .stage ≡ 2)
+Allowed t s Take =
+    Shifting s
+    × (s .stage ≡ 3)
+    × (Syncing s → s .clock ≤ s .«phase_time» + t .«sync_ex»)
+    × (Zeroing s → s .clock ≤ s .«phase_time» + t .«zero_ex»)
+Allowed t s AskClutch =
+    (s .stage ≡ 5)
+    × ((Syncing s × (s .«phase_time» + t .«sync_de» ≤ s .clock))
+    ⊎ (Zeroing s × (s .«phase_time» + t .«zero_de» ≤ s .clock)))
+Allowed t s RaiseError = Shifting s × (s .stage ≡ 4)
+Allowed t s Finish = s .phase ≡ 22
+Allowed t s (Tick n) = (s .clock + n ≤ 4294967295) × (Shifting s → InTime t s (s .clock + n))
+
+-- what was read of a record is allowed: it is a step, the state is listed, and the step is allowed in it
+abbrev pub Permitted : Table → State → Reading → Type 0
+Permitted t s (Means x) = Listed s × Allowed t s x
+Permitted t s WrongCode = ⊥
+Permitted t s WrongAmount = ⊥
