@@ -4,9 +4,17 @@ use mathlib.Core.Path.{sym, _∙_}
 use Rattle.checks.specs.Determined.{Determined}
 use Rattle.limits.proofs.Table.broken_rule.Reads as broken-rule-reads
 use Rattle.limits.proofs.Table.default.Reads as default-reads
+use Rattle.limits.proofs.Table.entries.Reads as entries-reads
+use Rattle.limits.proofs.Table.of.Reads as of-reads
 
 pub default : Determined default-reads.Post
 default κs a x y at at′ p q = p ∙ sym q
 
 pub broken-rule : Determined broken-rule-reads.Post
 broken-rule κs a x y at at′ p q = p ∙ sym q
+
+pub of : Determined of-reads.Post
+of κs a x y at at′ p q = p ∙ sym q
+
+pub entries : Determined entries-reads.Post
+entries κs a x y at at′ p q = p ∙ sym q

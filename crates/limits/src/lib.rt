@@ -4,7 +4,7 @@ ghost use Rattle.checks.specs.Checks.{first, numbered};
 ghost use Prim.Native.Nat.{_+_, _*_};
 ghost use mathlib.Core.Bool.{true};
 ghost use lib.Dec.{leb, ltb};
-ghost use Rattle.limits.specs.Limits.{default, entries};
+ghost use Rattle.limits.specs.Limits.{default, entries, tableOf};
 ghost use Rattle.limits.specs.Rules.{atLeast1, rules, brokenRule};
 
 // The limits under the manual's names, in milliseconds, in the order of their entry numbers 0 to 17.
@@ -54,6 +54,58 @@ impl Table {
             close_clutch_dl: 200,
             change_dl: 1500,
         }
+    }
+
+    // The table of eighteen entries.
+    pub fn of(entries: [u16; 18]) -> Table
+        ensures { λ r. ⌜ r ≡ tableOf entries ⌝ }
+    {
+        Table {
+            channel_dl: entries[0],
+            engine_sync_dl: entries[1],
+            engine_zero_dl: entries[2],
+            clutch_open_dl: entries[3],
+            clutch_close_dl: entries[4],
+            gear_set_dl: entries[5],
+            gear_release_dl: entries[6],
+            sync_ex: entries[7],
+            zero_ex: entries[8],
+            sync_dl: entries[9],
+            zero_dl: entries[10],
+            sync_de: entries[11],
+            zero_de: entries[12],
+            open_clutch_dl: entries[13],
+            set_gear_dl: entries[14],
+            release_dl: entries[15],
+            close_clutch_dl: entries[16],
+            change_dl: entries[17],
+        }
+    }
+
+    // The eighteen entries of the table, in their order.
+    pub fn entries(self) -> [u16; 18]
+        ensures { λ r. ⌜ r ≡ entries self ⌝ }
+    {
+        [
+            self.channel_dl,
+            self.engine_sync_dl,
+            self.engine_zero_dl,
+            self.clutch_open_dl,
+            self.clutch_close_dl,
+            self.gear_set_dl,
+            self.gear_release_dl,
+            self.sync_ex,
+            self.zero_ex,
+            self.sync_dl,
+            self.zero_dl,
+            self.sync_de,
+            self.zero_de,
+            self.open_clutch_dl,
+            self.set_gear_dl,
+            self.release_dl,
+            self.close_clutch_dl,
+            self.change_dl,
+        ]
     }
 
     // The number of the first rule that the table breaks, 0 where it is admitted.

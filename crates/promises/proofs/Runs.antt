@@ -1,6 +1,6 @@
 -- Laws on runs: what an accepted step tells, what every step keeps, and a list in two pieces.
 -- Assumes nothing.
-use mathlib.Core.Path.{_≡_, refl}
+use mathlib.Core.Path.{_≡_, refl, ap}
 use mathlib.Core.List.{List, [], _∷_, _++_}
 use Prim.Native.Nat.{ℕ, zero, suc, _+_}
 use native.Mathlib.Nat.{zero-add, suc-add}
@@ -14,7 +14,8 @@ use Rattle.shift.specs.declared.Reading.{Reading}
 use Rattle.shift.specs.declared.Reading.the-variants.{Means, WrongCode, WrongAmount}
 use Rattle.shift.specs.declared.Step.{Step}
 use Rattle.shift.specs.declared.Step.the-variants.{FromNeutral, GearToGear, ToNeutral, Deliver, DeviceGood, DeviceFailed, EngineWaits, Take, AskClutch, RaiseError, Finish, Tick}
-use Rattle.shift.specs.Answers.{checks, guard, led}
+use Rattle.shift.specs.declared.Answer.{Answer}
+use Rattle.shift.specs.Answers.{checks, guard, led, answer, judged}
 use Rattle.shift.specs.Runs.{Outcome, after, run}
 use Rattle.promises.specs.Verdicts.{resumed, joined}
 
@@ -81,3 +82,26 @@ pub beginning :
 beginning t s xs ys h =
     let a = run t s xs in
     both-accepted (a .number) a (run t (a .state) ys) refl (rw (pieces t s xs ys) at h)
+
+-- ---- a run by what each step answers; `rest` is what follows from a state
+on : (k : ℕ) (next s : State) (rest : State → Outcome) (a : Answer) → a ≡ answer k next s → a .number ≡ 0 → after k s (rest next) ≡ after 0 s (rest (a .state))
+on zero next s rest a e z = rw e
+on (suc k) next s rest a e z = let q = ap (λ (b : Answer). b .number) e in absurd (omega arith)
+
+off : (k : ℕ) (next s : State) (rest : Outcome) (a : Answer) → a ≡ answer k next s → ¬ (a .number ≡ 0) → after k s rest ≡ record { count = 0; number = a .number; state = s }
+off zero next s rest a e n = absurd (n (ap (λ (b : Answer). b .number) e))
+off (suc k) next s rest a e n = rw e
+
+module _ (t : Table) (s : State) (r : Reading) (rs : List Reading) (a : Answer) (e : a ≡ judged t s r) where
+  pub goes-on : a .number ≡ 0 → run t s (r ∷ rs) ≡ after 0 s (run t (a .state) rs)
+  goes-on = on (guard t s r) (led s r) s (λ q. run t q rs) a e
+
+  pub stops : ¬ (a .number ≡ 0) → run t s (r ∷ rs) ≡ record { count = 0; number = a .number; state = s }
+  stops = off (guard t s r) (led s r) s (run t (led s r) rs) a e
+
+-- an outcome after k that were accepted before
+abbrev pub counted : ℕ → Outcome → Outcome
+counted k o = record { count = k + o .count; number = o .number; state = o .state }
+
+pub counted-one : (k : ℕ) (s : State) (o : Outcome) → counted k (after 0 s o) ≡ counted (k + 1) o
+counted-one k s o = ap (λ n. record { count = n; number = o .number; state = o .state }) (omega arith)

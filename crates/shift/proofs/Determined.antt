@@ -2,6 +2,7 @@
 -- Assumes nothing.
 use mathlib.Core.Path.{sym, _∙_}
 use Rattle.checks.specs.Determined.{Determined}
+use Rattle.shift.proofs.Reading.refusal.Reads as refusal-reads
 use Rattle.shift.proofs.State.start.Reads as start-reads
 use Rattle.shift.proofs.State.step.Reads as step-reads
 use Rattle.shift.proofs.State.judged.Reads as judged-reads
@@ -18,3 +19,6 @@ judged κs a x y at at′ p q = p ∙ sym q
 
 pub of : Determined of-reads.Post
 of κs a x y at at′ p q = p ∙ sym q
+
+pub refusal : Determined refusal-reads.Post
+refusal κs a x y at at′ p q = p ∙ sym q

@@ -94,7 +94,7 @@ fn ticking(amount: u32) -> Reading
 
 impl Reading {
     // Refusal 5 or 6, 0 for a step.
-    fn refusal(self) -> u8
+    pub fn refusal(self) -> u8
         ensures { λ r. ⌜ r ≡ refusal self ⌝ }
     {
         match self {

@@ -1,0 +1,5 @@
+pub mod Ascii
+pub mod Decimals
+pub mod Lines
+pub mod Laying
+pub mod KnownLines

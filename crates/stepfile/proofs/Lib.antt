@@ -1,0 +1,12 @@
+pub mod ByteLaws
+pub mod FileLaws
+pub mod RecordLaws
+pub mod WritingLaws
+pub mod StoreLaws
+pub mod WriteLaws
+pub mod TableLaws
+pub mod StepLaws
+pub mod ReadLaws
+pub mod WholeLaws
+pub mod RoundTrip
+pub mod Determined

@@ -1,0 +1,29 @@
+-- Laws on the records of a part: the one at a place and those after it, and none where fewer than four bytes are left.
+-- Assumes nothing.
+use mathlib.Core.Path.{_≡_, refl, sym, _∙_}
+use mathlib.Core.List.{List, [], _∷_}
+use Prim.Native.Nat.{ℕ, suc, _+_, _≤_, _<_}
+use native.Mathlib.Numerals.{add-one, towards-suc}
+use native.Mathlib.Omega.{arith}
+use lib.ListN.{length, getD, drop, length-drop}
+use lib.Seq.{drop-cons}
+use Rattle.stepfile.specs.Records.{recordAt, recordsIn}
+
+pub one-more : (l : List ℕ) (i : ℕ) → i + 3 < length l → recordsIn (drop i l) ≡ recordAt l i ∷ recordsIn (drop (i + 4) l)
+one-more l i h =
+    let a = drop-cons l i 0 (omega arith) in
+    let b = drop-cons l (suc i) 0 (omega arith) in
+    let c = drop-cons l (suc (suc i)) 0 (omega arith) in
+    let d = drop-cons l (suc (suc (suc i))) 0 (omega arith) in
+    rw (a, b, c, d) (simp towards-suc)
+
+-- fewer than four bytes are no record
+short : (l : List ℕ) → length l < 4 → recordsIn l ≡ []
+short [] h = refl
+short (a ∷ []) h = refl
+short (a ∷ b ∷ []) h = refl
+short (a ∷ b ∷ c ∷ []) h = refl
+short (a ∷ b ∷ c ∷ d ∷ l) h = absurd (omega arith)
+
+pub no-more : (l : List ℕ) (i : ℕ) → length l ≤ i + 3 → recordsIn (drop i l) ≡ []
+no-more l i h = short (drop i l) (simp length-drop (omega arith))

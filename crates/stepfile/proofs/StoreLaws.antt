@@ -1,0 +1,93 @@
+-- Laws on storing numbers one after the other: what is stored and what is still to be stored are the whole.
+-- Assumes nothing.
+use mathlib.Core.Path.{_≡_, refl, sym, ap, _∙_}
+use mathlib.Core.List.{List, [], _∷_, _++_}
+use Prim.Native.Nat.{ℕ, zero, suc, _+_, _*_, _≤_, _<_}
+use native.Mathlib.Nat.{add-zero, zero-add}
+use native.Mathlib.Numerals.{add-one, towards-suc}
+use native.Mathlib.Omega.{arith}
+use lib.ListN.{length, getD, set, drop, drop-of-length-le}
+use lib.Seq.{sets, sets-eq, drop-cons}
+use Rattle.shift.specs.Answers.{reading, refusal}
+use Rattle.stepfile.specs.declared.write.Wish.{Wish}
+use Rattle.stepfile.specs.declared.write.Wish.the-variants.{Given, NoTable}
+use Rattle.stepfile.specs.declared.write.Wrong.{Wrong}
+use Rattle.stepfile.specs.Bytes.{bytesOf}
+use Rattle.stepfile.specs.Writing.{entriesOf, recordsOf, wrongOr, firstWrong}
+use Rattle.stepfile.proofs.WritingLaws.{bytesOf-append}
+
+pub sets-append : (l : List ℕ) (i : ℕ) (xs ys : List ℕ) → sets l i (xs ++ ys) ≡ sets (sets l i xs) (i + length xs) ys
+sets-append l i [] ys = ap (λ n. sets l n ys) (sym (add-zero i))
+sets-append l i (x ∷ xs) ys =
+    let s = set l i x in
+    sets-append s (suc i) xs ys ∙ ap (λ n. sets (sets s (suc i) xs) n ys) (omega arith)
+
+-- ---- the entries of a table
+module _ (l es : List ℕ) (i : ℕ) where
+  pub entry-stored :
+      i < length es
+      → sets l (12 + 2 * i) (bytesOf (drop i es))
+      ≡ sets (sets l (12 + 2 * i) (bytesOf (getD es i 0 ∷ []))) (12 + 2 * (i + 1)) (bytesOf (drop (i + 1) es))
+  entry-stored h =
+      let next : 12 + 2 * (i + 1) ≡ suc (suc (12 + 2 * i)) = omega arith in
+      rw (next, add-one i, drop-cons es i 0 h)
+
+  pub entries-stored : length es ≤ i → sets l (12 + 2 * i) (bytesOf (drop i es)) ≡ l
+  entries-stored h = rw (drop-of-length-le es h)
+
+-- ---- the records of two lists
+module _ (l cs ns : List ℕ) (p i : ℕ) where
+  pub record-stored :
+      i < length cs → i < length ns
+      → sets l p (bytesOf (recordsOf (drop i cs) (drop i ns)))
+      ≡ sets (sets (sets l p (bytesOf (getD cs i 0 ∷ []))) (p + 2) (bytesOf (getD ns i 0 ∷ []))) (p + 4) (bytesOf (recordsOf (drop (i + 1) cs) (drop (i + 1) ns)))
+  record-stored h k = rw (add-one i, drop-cons cs i 0 h, drop-cons ns i 0 k) (simp towards-suc)
+
+  pub records-stored : length cs ≤ i → sets l p (bytesOf (recordsOf (drop i cs) (drop i ns))) ≡ l
+  records-stored h = rw (drop-of-length-le cs h)
+
+-- ---- the first wrong record from an index on
+wrong-there : (k i : ℕ) (rest : Wrong) → ¬ (k ≡ 0) → wrongOr k i rest ≡ record { number = k; index = i }
+wrong-there zero i rest n = absurd (n refl)
+wrong-there (suc k) i rest n = refl
+
+module _ (cs ns : List ℕ) (i : ℕ) where
+  pub right-here :
+      i < length cs → i < length ns → refusal (reading (getD cs i 0) (getD ns i 0)) ≡ 0
+      → firstWrong i (drop i cs) (drop i ns) ≡ firstWrong (i + 1) (drop (i + 1) cs) (drop (i + 1) ns)
+  right-here h k z = rw (add-one i, drop-cons cs i 0 h, drop-cons ns i 0 k, z)
+
+  pub wrong-here :
+      {k : ℕ} → i < length cs → i < length ns → k ≡ refusal (reading (getD cs i 0) (getD ns i 0)) → ¬ (k ≡ 0)
+      → firstWrong i (drop i cs) (drop i ns) ≡ record { number = k; index = i }
+  wrong-here {k} h m e n =
+      rw (drop-cons cs i 0 h, drop-cons ns i 0 m, ← e) (wrong-there k i (firstWrong (suc i) (drop (suc i) cs) (drop (suc i) ns)) n)
+
+  pub none-left : length cs ≤ i → firstWrong i (drop i cs) (drop i ns) ≡ record { number = 0; index = 0 }
+  none-left h = rw (drop-of-length-le cs h)
+
+  pub none-paired : i < length cs → length ns ≤ i → firstWrong i (drop i cs) (drop i ns) ≡ record { number = 0; index = 0 }
+  none-paired h k = rw (drop-cons cs i 0 h, drop-of-length-le ns k)
+
+-- ---- header, entries and records in one
+pub file-stored :
+    (l h e r : List ℕ)
+    → sets (sets (sets l 0 (bytesOf h)) (length (bytesOf h)) (bytesOf e)) (length (bytesOf h) + length (bytesOf e)) (bytesOf r)
+    ≡ sets l 0 (bytesOf (h ++ (e ++ r)))
+file-stored l h e r =
+    let whole : bytesOf (h ++ (e ++ r)) ≡ bytesOf h ++ (bytesOf e ++ bytesOf r) =
+    bytesOf-append h (e ++ r) ∙ ap (λ bs. bytesOf h ++ bs) (bytesOf-append e r)
+    in
+    let m = sets l 0 (bytesOf h) in
+    sym (ap (sets l 0) whole
+    ∙ sets-append l 0 (bytesOf h) (bytesOf e ++ bytesOf r)
+    ∙ ap (λ n. sets m n (bytesOf e ++ bytesOf r)) (zero-add (length (bytesOf h)))
+    ∙ sets-append m (length (bytesOf h)) (bytesOf e) (bytesOf r))
+
+-- ---- the file in a buffer
+pub few : (w : Wish) → length (entriesOf w) ≤ 18
+few (Given t) = omega arith
+few NoTable = omega arith
+
+pub at-start : (l vs : List ℕ) (n : ℕ) → length vs ≡ n → n ≤ length l → sets l 0 vs ≡ vs ++ drop n l
+at-start l vs n e h = sets-eq vs l 0 (omega arith) ∙ ap (λ k. vs ++ drop k l) (zero-add (length vs) ∙ e)

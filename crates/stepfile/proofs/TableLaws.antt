@@ -1,0 +1,90 @@
+-- Laws on the header and the table of a file that was written, and on what makes a file a good one.
+-- Assumes nothing.
+use mathlib.Core.Path.{_≡_, refl, sym, ap, _∙_}
+use mathlib.Core.Bool.{Bool, true, false, cond, _||_}
+use mathlib.Core.List.{List, [], _∷_, _++_}
+use Prim.Native.Nat.{ℕ, zero, suc, _+_, _*_, _/_, _%_, _≤_}
+use native.Mathlib.Omega.{arith}
+use lib.Dec.{T, leb, eqb}
+use lib.ListN.{length, drop}
+use lib.Seq.{drop-at, getD-drop}
+use borrow.Author.Tests.{eq-eqb, ne-eqb, le-leb}
+use Rattle.checks.specs.Checks.{Holds}
+use Rattle.checks.proofs.Checks.{holds→first}
+use Rattle.checks.proofs.Tests.{tests}
+use Rattle.limits.specs.declared.Table.{Table}
+use Rattle.limits.specs.Limits.{tableOf, default}
+use Rattle.limits.specs.Rules.{brokenRule}
+use Rattle.stepfile.specs.Bytes.{u16sAt, bytesOf}
+use Rattle.stepfile.specs.Records.{recordsIn}
+use Rattle.stepfile.specs.Files.{tableEntries, recordOffset, recordCount, headedBy, headed, tableIn, refusalOf, fromOffset, readingsOf}
+use Rattle.stepfile.specs.Writing.{headerOf}
+use Rattle.stepfile.proofs.FileLaws.{not-refused}
+use Rattle.stepfile.proofs.WritingLaws.{bytesOf-append, length-bytesOf}
+
+-- ---- the numbers of 16 bits that were written are read
+pub dropped : (l : List ℕ) (i j n : ℕ) → u16sAt (drop i l) j n ≡ u16sAt l (i + j) n
+dropped l i j zero = refl
+dropped l i j (suc n) =
+    let one : i + (j + 1) ≡ i + j + 1 = omega arith in
+    let two : i + (j + 2) ≡ i + j + 2 = omega arith in
+    rw (getD-drop i l j 0, getD-drop i l (j + 1) 0, dropped l i (j + 2) n, one, two)
+
+pub read-back : (xs ys : List ℕ) → u16sAt (bytesOf (xs ++ ys)) 0 (length xs) ≡ xs
+read-back [] ys = refl
+read-back (x ∷ xs) ys =
+    let whole : x % 256 + 256 * (x / 256) ≡ x = omega arith in
+    rw (← dropped (bytesOf ((x ∷ xs) ++ ys)) 2 0 (length xs), read-back xs ys, whole)
+
+-- ---- the header that was written is read
+module _ (k n : ℕ) (rest : List ℕ) where
+  abbrev headedFile : List ℕ
+  headedFile = bytesOf (headerOf k n ++ rest)
+
+  pub entries-back : tableEntries headedFile ≡ k
+  entries-back = omega arith
+
+  pub offset-back : recordOffset headedFile ≡ 12 + 2 * k
+  offset-back = omega arith
+
+  pub count-back : recordCount headedFile ≡ n
+  count-back = omega arith
+
+-- ---- the table of a file with entries, and of one without
+pub with-entries : (f : List ℕ) → 48 ≤ length f → tableEntries f ≡ 18 → tableIn f ≡ tableOf (u16sAt f 12 18)
+unfolding tableIn
+with-entries f l e =
+    ap (λ b. cond b (cond (eqb (tableEntries f) 18) (tableOf (u16sAt f 12 18)) default) default) (le-leb 48 (length f) l)
+    ∙ ap (λ b. cond b (tableOf (u16sAt f 12 18)) default) (eq-eqb (tableEntries f) 18 e)
+
+either-way : (b : Bool) (t u : Table) → t ≡ u → cond b t u ≡ u
+either-way true t u e = e
+either-way false t u e = refl
+
+pub without-entries : (f : List ℕ) → tableEntries f ≡ 0 → tableIn f ≡ default
+unfolding tableIn
+without-entries f e =
+    either-way (leb 48 (length f)) (cond (eqb (tableEntries f) 18) (tableOf (u16sAt f 12 18)) default) default
+    (ap (λ b. cond b (tableOf (u16sAt f 12 18)) default) (ne-eqb (tableEntries f) 18 (omega arith)))
+
+-- ---- a file is good whose header fields and table are
+pub headed-well :
+    (len offset k from n : ℕ) → offset ≡ 12 → T (eqb k 0 || eqb k 18) → from ≡ 12 + 2 * k → n ≤ 16372 → len ≡ 12 + 2 * k + 4 * n
+    → Holds (headedBy len offset k from n)
+headed-well len offset k from n o t r m l =
+    (omega (arith, tests), (omega (arith, tests), (t, (omega (arith, tests)))))
+
+pub well : (f : List ℕ) → Holds (headed f) → brokenRule (tableIn f) ≡ 0 → refusalOf f .number ≡ 0
+well f h b = let z = holds→first (headed f) h in sym (ap (λ r. r .number) (not-refused f refl z refl b))
+
+-- ---- the records of a good file
+pub records-from : (f : List ℕ) → refusalOf f .number ≡ 0 → 12 ≤ length f → readingsOf f ≡ recordsIn (drop (recordOffset f) f)
+records-from f e l =
+    ap (λ b. recordsIn (cond b (fromOffset f) [])) (eq-eqb (refusalOf f .number) 0 e)
+    ∙ ap (λ b. recordsIn (cond b (drop (recordOffset f) f) [])) (le-leb 12 (length f) l)
+
+-- ---- what was written behind the entries
+pub behind : (k n : ℕ) (es rs : List ℕ) → length es ≡ k → drop (12 + 2 * k) (bytesOf (headerOf k n ++ (es ++ rs))) ≡ bytesOf rs
+behind k n es rs e =
+    let b = length-bytesOf es in
+    rw (bytesOf-append (headerOf k n ++ es) rs) (drop-at (bytesOf (headerOf k n ++ es)) (bytesOf rs) (12 + 2 * k) (omega arith))

@@ -1,0 +1,30 @@
+-- Laws on what is written: the bytes of two lists, how many there are, and the size of a file.
+-- Assumes nothing.
+use mathlib.Core.Path.{_≡_, refl, ap}
+use mathlib.Core.List.{List, [], _∷_, _++_}
+use Prim.Native.Nat.{ℕ, _*_, _/_, _%_}
+use native.Mathlib.Omega.{arith}
+use lib.ListN.{length, length-append}
+use Rattle.stepfile.specs.declared.write.Wish.{Wish}
+use Rattle.stepfile.specs.Bytes.{bytesOf}
+use Rattle.stepfile.specs.Writing.{entriesOf, recordsOf, fileOf, sizeOf}
+
+pub bytesOf-append : (xs ys : List ℕ) → bytesOf (xs ++ ys) ≡ bytesOf xs ++ bytesOf ys
+bytesOf-append [] ys = refl
+bytesOf-append (x ∷ xs) ys = ap (λ (l : List ℕ). x % 256 ∷ x / 256 ∷ l) (bytesOf-append xs ys)
+
+pub length-bytesOf : (xs : List ℕ) → length (bytesOf xs) ≡ 2 * length xs
+length-bytesOf [] = refl
+length-bytesOf (x ∷ xs) = let h = length-bytesOf xs in omega arith
+
+pub length-recordsOf : (cs ns : List ℕ) → length cs ≡ length ns → length (recordsOf cs ns) ≡ 2 * length cs
+length-recordsOf [] ns e = refl
+length-recordsOf (c ∷ cs) [] e = absurd (omega arith)
+length-recordsOf (c ∷ cs) (n ∷ ns) e = let h = length-recordsOf cs ns (omega arith) in omega arith
+
+pub size : (w : Wish) (cs ns : List ℕ) → length cs ≡ length ns → length (fileOf w cs ns) ≡ sizeOf w cs
+size w cs ns e =
+    let r = length-recordsOf cs ns e in
+    let b = length-bytesOf (entriesOf w ++ recordsOf cs ns) in
+    let a = length-append (entriesOf w) (recordsOf cs ns) in
+    omega arith

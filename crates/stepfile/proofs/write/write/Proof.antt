@@ -1,0 +1,108 @@
+-- `write` meets its contract: one return for each refusal, which leaves the buffer, and one with the file in it.
+-- Assumes nothing.
+use mathlib.Core.Path.{_≡_, sym, ap, _∙_}
+use Prim.Native.Nat.{_≤_}
+use native.Mathlib.Omega.{arith}
+use lib.Dec.{T}
+use lib.ListN.{length}
+use borrow.Author.Needs.{needs}
+use Rattle.checks.proofs.Tests.{tests, eq→eqb, ne→neqb}
+use Rattle.checks.proofs.Checks.{refused, holds→first}
+use Rattle.limits.specs.Rules.{brokenRule}
+use Rattle.stepfile.specs.declared.write.Wrong.{Wrong}
+use Rattle.stepfile.specs.Writing.{wished, fileOf, sizeOf, writable, refusedWith}
+use Rattle.stepfile.proofs.WritingLaws.{size}
+use Rattle.stepfile.proofs.StoreLaws.{few, at-start}
+use Rattle.stepfile.proofs.WriteLaws.{at-lists, at-record, at-room, written, amounts-small}
+use Rattle.stepfile.proofs.write.write.Statement.{statement}
+use Rattle.stepfile.proofs.write.write.Tie as tie
+
+returns : tie.Need-returns
+returns c =
+    let a = c .before .before .before .before .before .args in
+    let n = refused (writable (a .wish) (a .codes .now) (a .amounts .now)) 0 (omega (arith, tests)) in
+    let k = at-lists (a .wish) (a .codes .now) (a .amounts .now) (a .out .now) 3 n (λ q. omega arith) in
+    (c .refuse .ensures ∙ k .0, k .1)
+
+returns-2 : tie.Need-returns-2
+returns-2 c =
+    let a = c .before .before .before .before .before .before .args in
+    let n = refused (writable (a .wish) (a .codes .now) (a .amounts .now)) 1 (omega (arith, tests)) in
+    let k = at-lists (a .wish) (a .codes .now) (a .amounts .now) (a .out .now) 2 n (λ q. omega arith) in
+    (c .refuse2 .ensures ∙ k .0, k .1)
+
+returns-3 : tie.Need-returns-3
+returns-3 c =
+    let a = c .before .before .before .before .before .before .before .before .before .args in
+    let r = c .before .before .broken-rule .ensures ∙ ap brokenRule (c .before .before .before .table .ensures) in
+    let n = refused (writable (a .wish) (a .codes .now) (a .amounts .now)) 2
+    (omega (arith, tests), (omega (arith, tests), ne→neqb (brokenRule (wished (a .wish))) 0 (λ z. c .before .if3 .taken (r ∙ z)))) in
+    let k = at-lists (a .wish) (a .codes .now) (a .amounts .now) (a .out .now) 4 n (λ q. omega arith) in
+    (c .refuse3 .ensures ∙ ap (λ x. refusedWith 4 x 0) r ∙ k .0, k .1)
+
+returns-4 : tie.Need-returns-4
+returns-4 c =
+    let a = c .before .before .before .before .before .before .before .before .before .before .before .args in
+    let r = c .before .before .before .before .broken-rule .ensures ∙ ap brokenRule (c .before .before .before .before .before .table .ensures) in
+    let n = holds→first (writable (a .wish) (a .codes .now) (a .amounts .now))
+    (omega (arith, tests), (omega (arith, tests), (eq→eqb (brokenRule (wished (a .wish))) 0 (sym r ∙ c .before .before .before .if3 .left), tt))) in
+    let x = c .before .before .first-wrong .ensures in
+    let k = at-record (a .wish) (a .codes .now) (a .amounts .now) (a .out .now) n (λ z. c .before .if4 .taken (ap (λ (q : Wrong). q .number) x ∙ z)) in
+    (c .refuse4 .ensures ∙ ap (λ (q : Wrong). refusedWith (q .number) 0 (q .index)) x ∙ k .0, k .1)
+
+returns-5 : tie.Need-returns-5
+returns-5 c =
+    let a = c .before .before .before .before .before .before .before .before .before .before .before .before .before .args in
+    let r = c .before .before .before .before .before .before .broken-rule .ensures ∙ ap brokenRule (c .before .before .before .before .before .before .before .table .ensures) in
+    let n = holds→first (writable (a .wish) (a .codes .now) (a .amounts .now))
+    (omega (arith, tests), (omega (arith, tests), (eq→eqb (brokenRule (wished (a .wish))) 0 (sym r ∙ c .before .before .before .before .before .if3 .left), tt))) in
+    let z = sym (ap (λ (q : Wrong). q .number) (c .before .before .before .before .first-wrong .ensures)) ∙ c .before .before .before .if4 .left in
+    let k = at-room (a .wish) (a .codes .now) (a .amounts .now) (a .out .now) n z (omega arith) in
+    (c .refuse5 .ensures ∙ k .0, k .1)
+
+put-file-requires : tie.Need-put-file-requires
+put-file-requires c κs =
+    let a = c .before .before .before .before .before .before .before .before .before .before .before .before .before .args in
+    let z = sym (ap (λ (q : Wrong). q .number) (c .before .before .before .before .first-wrong .ensures)) ∙ c .before .before .before .if4 .left in
+    (omega arith, (omega arith, amounts-small 0 (a .codes .now) (a .amounts .now) (omega arith) z))
+
+returns-6 : tie.Need-returns-6
+returns-6 c =
+    let a = c .before .before .before .before .before .before .before .before .before .before .before .before .before .before .before .before .args in
+    let r = c .before .before .before .before .before .before .before .before .before .broken-rule .ensures ∙ ap brokenRule (c .before .before .before .before .before .before .before .before .before .before .table .ensures) in
+    let n = holds→first (writable (a .wish) (a .codes .now) (a .amounts .now))
+    (omega (arith, tests), (omega (arith, tests), (eq→eqb (brokenRule (wished (a .wish))) 0 (sym r ∙ c .before .before .before .before .before .before .before .before .if3 .left), tt))) in
+    let z = sym (ap (λ (q : Wrong). q .number) (c .before .before .before .before .before .before .before .first-wrong .ensures)) ∙ c .before .before .before .before .before .before .if4 .left in
+    let room : sizeOf (a .wish) (a .codes .now) ≤ length (a .out .now) = omega arith in
+    let k = written (a .wish) (a .codes .now) (a .amounts .now) (a .out .now) n z room in
+    let file = fileOf (a .wish) (a .codes .now) (a .amounts .now) in
+    let long = size (a .wish) (a .codes .now) (a .amounts .now) (omega arith) in (
+      ap (λ m. record { number = 0; rule = 0; index = 0; length = m }) (omega arith) ∙ k .0,
+      c .before .before .put-file .ensures ∙ at-start (a .out .now) file (sizeOf (a .wish) (a .codes .now)) long room ∙ k .1,
+    )
+
+pub write-spec : {M : Type 1} → statement M
+write-spec =
+    tie.close
+    (tie.spec
+    (λ _ _. tt)
+    returns
+    (λ _ _. tt)
+    returns-2
+    (λ _ _. tt)
+    (λ _ _. tt)
+    (λ _ _. tt)
+    returns-3
+    (λ _ _. tt)
+    (λ _ _. tt)
+    returns-4
+    (λ _ _. tt)
+    (λ c. omega (arith, few (c .before .before .before .before .before .before .before .before .before .before .before .args .wish)))
+    (λ c. omega (arith, few (c .before .before .before .before .before .before .before .before .before .before .before .args .wish)))
+    (λ c. omega (arith, few (c .before .before .before .before .before .before .before .before .before .before .before .args .wish)))
+    (λ c. omega (arith, few (c .before .before .before .before .before .before .before .before .before .before .before .args .wish)))
+    (λ _ _. tt)
+    returns-5
+    put-file-requires
+    (λ c. search needs)
+    returns-6)

@@ -1,0 +1,67 @@
+-- Document 01, "Step files, parts and writing": the header of a file, refusals 1 to 4, its table and its record bytes.
+-- Assumes nothing.
+use mathlib.Core.Bool.{cond, _||_}
+use mathlib.Core.List.{List, [], _∷_, _++_}
+use Prim.Native.Nat.{ℕ, _+_, _*_}
+use lib.Dec.{leb, eqb}
+use lib.ListN.{length, drop}
+use Rattle.checks.specs.Checks.{Check, _!_, first}
+use Rattle.limits.specs.declared.Table.{Table}
+use Rattle.limits.specs.Limits.{tableOf, default}
+use Rattle.limits.specs.Rules.{brokenRule}
+use Rattle.shift.specs.declared.Reading.{Reading}
+use Rattle.stepfile.specs.declared.Refusal.{Refusal}
+use Rattle.stepfile.specs.Bytes.{u16At, u32At, u16sAt}
+use Rattle.stepfile.specs.Records.{recordsIn}
+
+-- ---- the header of 12 bytes
+abbrev pub tableOffset : List ℕ → ℕ
+tableOffset f = u16At f 0
+
+abbrev pub tableEntries : List ℕ → ℕ
+tableEntries f = u16At f 2
+
+abbrev pub recordOffset : List ℕ → ℕ
+recordOffset f = u32At f 4
+
+abbrev pub recordCount : List ℕ → ℕ
+recordCount f = u32At f 8
+
+-- ---- refusals 1, 2 and 3, of a file of so many bytes with these header fields
+abbrev pub headedBy : ℕ → ℕ → ℕ → ℕ → ℕ → List Check
+headedBy len offset k from n =
+    (leb 12 len ! 1)
+    ∷ (eqb offset 12 ! 2)
+    ∷ ((eqb k 0 || eqb k 18) ! 2)
+    ∷ (eqb from (12 + 2 * k) ! 2)
+    ∷ (leb n 16372 ! 2)
+    ∷ (eqb len (12 + 2 * k + 4 * n) ! 3)
+    ∷ []
+
+abbrev pub headed : List ℕ → List Check
+headed f = headedBy (length f) (tableOffset f) (tableEntries f) (recordOffset f) (recordCount f)
+
+-- ---- the table: eighteen entries, or the default where there are none
+unfoldable pub tableIn : List ℕ → Table
+tableIn f = cond (leb 48 (length f)) (cond (eqb (tableEntries f) 18) (tableOf (u16sAt f 12 18)) default) default
+
+-- ---- refusals 1 to 4, the rule's number with 4 and 0 otherwise
+abbrev pub checks : List ℕ → List Check
+checks f = headed f ++ ((eqb (brokenRule (tableIn f)) 0 ! 4) ∷ [])
+
+abbrev pub refusing : ℕ → ℕ → Refusal
+refusing number rule = record { number = number; rule = cond (eqb number 4) rule 0 }
+
+abbrev pub refusalOf : List ℕ → Refusal
+refusalOf f = refusing (first (checks f)) (brokenRule (tableIn f))
+
+-- ---- the record bytes: what stands from the record offset on; of a file that is refused with 1 to 4 none
+abbrev pub fromOffset : List ℕ → List ℕ
+fromOffset f = cond (leb 12 (length f)) (drop (recordOffset f) f) []
+
+abbrev pub recordBytes : List ℕ → List ℕ
+recordBytes f = cond (eqb (refusalOf f .number) 0) (fromOffset f) []
+
+-- what the records of a file mean
+abbrev pub readingsOf : List ℕ → List Reading
+readingsOf f = recordsIn (recordBytes f)

@@ -1,0 +1,84 @@
+-- Document 01, "Step files, parts and writing": the bytes of a file, and what the writer answers.
+-- Assumes nothing.
+use mathlib.Core.Bool.{cond}
+use mathlib.Core.List.{List, [], _∷_, _++_}
+use Prim.Native.Nat.{ℕ, zero, suc, _+_, _*_}
+use lib.Dec.{leb, eqb}
+use lib.ListN.{length, drop}
+use Rattle.checks.specs.Checks.{Check, _!_, first}
+use Rattle.limits.specs.declared.Table.{Table}
+use Rattle.limits.specs.Limits.{entries, default}
+use Rattle.limits.specs.Rules.{brokenRule}
+use Rattle.shift.specs.Answers.{reading, refusal}
+use Rattle.stepfile.specs.declared.write.Wish.{Wish}
+use Rattle.stepfile.specs.declared.write.Wish.the-variants.{Given, NoTable}
+use Rattle.stepfile.specs.declared.write.Written.{Written}
+use Rattle.stepfile.specs.declared.write.Wrong.{Wrong}
+use Rattle.stepfile.specs.Bytes.{bytesOf}
+
+-- ---- the table or the wish for none
+abbrev pub wished : Wish → Table
+wished (Given t) = t
+wished NoTable = default
+
+abbrev pub entriesOf : Wish → List ℕ
+entriesOf (Given t) = entries t
+entriesOf NoTable = []
+
+-- ---- the file, in numbers of 16 bits: a 32-bit field of the header has a second half of 0, and a record's code with the zero byte
+-- behind it is one number
+abbrev pub headerOf : ℕ → ℕ → List ℕ
+headerOf k n = 12 ∷ k ∷ (12 + 2 * k) ∷ 0 ∷ n ∷ 0 ∷ []
+
+abbrev pub recordsOf : List ℕ → List ℕ → List ℕ
+recordsOf [] ns = []
+recordsOf (c ∷ cs) [] = []
+recordsOf (c ∷ cs) (n ∷ ns) = c ∷ n ∷ recordsOf cs ns
+
+abbrev pub fileOf : Wish → List ℕ → List ℕ → List ℕ
+fileOf w cs ns = bytesOf (headerOf (length (entriesOf w)) (length cs) ++ (entriesOf w ++ recordsOf cs ns))
+
+abbrev pub sizeOf : Wish → List ℕ → ℕ
+sizeOf w cs = 12 + 2 * length (entriesOf w) + 4 * length cs
+
+-- ---- the first record with 5 or 6, and its index; with number 0 there is none
+abbrev pub wrongOr : ℕ → ℕ → Wrong → Wrong
+wrongOr zero i rest = rest
+wrongOr (suc k) i rest = record { number = suc k; index = i }
+
+abbrev pub firstWrong : ℕ → List ℕ → List ℕ → Wrong
+firstWrong i [] ns = record { number = 0; index = 0 }
+firstWrong i (c ∷ cs) [] = record { number = 0; index = 0 }
+firstWrong i (c ∷ cs) (n ∷ ns) = wrongOr (refusal (reading c n)) i (firstWrong (suc i) cs ns)
+
+-- ---- refusals in the order 3, 2, 4, first record with 5 or 6, 15
+abbrev pub lists : ℕ → ℕ → ℕ → List Check
+lists codes amounts rule = (eqb codes amounts ! 3) ∷ (leb codes 16372 ! 2) ∷ (eqb rule 0 ! 4) ∷ []
+
+abbrev pub writable : Wish → List ℕ → List ℕ → List Check
+writable w cs ns = lists (length cs) (length ns) (brokenRule (wished w))
+
+-- what the writer answers: with the first three checks' number, the table's broken rule, the first wrong record, the file's size and
+-- the room for it
+abbrev pub refusedWith : ℕ → ℕ → ℕ → Written
+refusedWith number rule index = record { number = number; rule = rule; index = index; length = 0 }
+
+abbrev pub fitting : ℕ → ℕ → Written
+fitting size room =
+    cond (leb size room) (record { number = 0; rule = 0; index = 0; length = size }) (refusedWith 15 0 0)
+
+abbrev pub afterRecords : Wrong → Written → Written
+afterRecords w rest = cond (eqb (w .number) 0) rest (refusedWith (w .number) 0 (w .index))
+
+abbrev pub afterLists : ℕ → ℕ → Written → Written
+afterLists number rule rest = cond (eqb number 0) rest (refusedWith number (cond (eqb number 4) rule 0) 0)
+
+abbrev pub writtenOf : Wish → List ℕ → List ℕ → ℕ → Written
+writtenOf w cs ns room =
+    afterLists (first (writable w cs ns)) (brokenRule (wished w))
+    (afterRecords (firstWrong 0 cs ns) (fitting (sizeOf w cs) room))
+
+-- the buffer afterwards: the file at its start and all other bytes unchanged, or no byte changed
+abbrev pub bufferAfter : Wish → List ℕ → List ℕ → List ℕ → List ℕ
+bufferAfter w cs ns out =
+    cond (eqb (writtenOf w cs ns (length out) .number) 0) (fileOf w cs ns ++ drop (sizeOf w cs) out) out

@@ -1,0 +1,152 @@
+// Step files: bytes to header, table and records, and back.
+ghost use mathlib.Core.Path.{_≡_};
+ghost use Prim.Native.Nat.{_+_, _<_, _≤_};
+ghost use lib.ListN.{length};
+ghost use Rattle.checks.specs.Checks.{first};
+ghost use Rattle.stepfile.specs.Bytes.{u16sAt};
+ghost use Rattle.stepfile.specs.Records.{spoiled, recordOf};
+ghost use Rattle.stepfile.specs.Files.{headed, headedBy, tableIn, refusalOf, fromOffset, recordBytes};
+use limits::Table;
+use numbers::u16_at;
+use numbers::u32_at;
+use shift::Reading;
+use shift::Step;
+
+mod numbers;
+pub mod write;
+
+// Refusal 1 to 4 of a file, or 0; the rule's number with 4, else 0.
+pub struct Refusal {
+    pub number: u8,
+    pub rule: u8,
+}
+
+// Whether a file is refused with 1 to 4, in this order.
+pub fn refused(file: &[u8]) -> Refusal
+    ensures { λ r. ⌜ r ≡ refusalOf (now (file .entry)) ⌝ }
+{
+    let number = header(file);
+    if number != 0 {
+        return Refusal { number, rule: 0 };
+    }
+    let rule = table(file).broken_rule();
+    if rule != 0 {
+        return Refusal { number: 4, rule };
+    }
+    Refusal { number: 0, rule: 0 }
+}
+
+// Refusal 1, 2 or 3, or 0.
+fn header(file: &[u8]) -> u8
+    ensures { λ r. ⌜ r ≡ first (headed (now (file .entry))) ⌝ }
+{
+    let len = file.len();
+    if len < 12 {
+        return 1;
+    }
+    fields(
+        len,
+        u16_at(file, 0),
+        u16_at(file, 2),
+        u32_at(file, 4),
+        u32_at(file, 8),
+    )
+}
+
+// The same of a file of 12 bytes or more with these header fields.
+fn fields(len: usize, offset: usize, entries: usize, from: usize, count: usize) -> u8
+    requires { ⌜ (12 ≤ len) × (entries < 65536) × (count < 4294967296) ⌝ }
+    ensures { λ r. ⌜ r ≡ first (headedBy len offset entries from count) ⌝ }
+{
+    if offset != 12 {
+        return 2;
+    }
+    if (entries != 0) & (entries != 18) {
+        return 2;
+    }
+    if from != 12 + 2 * entries {
+        return 2;
+    }
+    if 16372 < count {
+        return 2;
+    }
+    if len != 12 + 2 * entries + 4 * count {
+        return 3;
+    }
+    0
+}
+
+// The table of a good file: its eighteen entries, or the default where it has none.
+pub fn table(file: &[u8]) -> Table
+    ensures { λ r. ⌜ r ≡ tableIn (now (file .entry)) ⌝ }
+{
+    if file.len() < 48 {
+        return Table::default();
+    }
+    if u16_at(file, 2) != 18 {
+        return Table::default();
+    }
+    Table::of(entries_at(file))
+}
+
+// The eighteen entries that stand behind the header.
+fn entries_at(file: &[u8]) -> [u16; 18]
+    requires { ⌜ 48 ≤ length (now file) ⌝ }
+    ensures { λ r. ⌜ r ≡ u16sAt (now (file .entry)) 12 18 ⌝ }
+{
+    let mut entries = [0u16; 18];
+    let mut i: usize = 0;
+    while i < 18 {
+        entries[i] = u16_at(file, 12 + 2 * i) as u16;
+        i += 1;
+    }
+    entries
+}
+
+// The record bytes of a good file, as that part of the lent file; of a refused file an empty part.
+pub fn records(file: &[u8]) -> &[u8]
+    ensures { λ r. ⌜ now r ≡ recordBytes (now (file .entry)) ⌝ }
+{
+    let number = refused(file).number;
+    if number != 0 {
+        return &file[..0];
+    }
+    from_offset(file)
+}
+
+// The same for a file that has been tested: what stands from its record offset on.
+pub fn from_offset(file: &[u8]) -> &[u8]
+    ensures { λ r. ⌜ now r ≡ fromOffset (now (file .entry)) ⌝ }
+{
+    let len = file.len();
+    if len < 12 {
+        return &file[..0];
+    }
+    let at = u32_at(file, 4);
+    if len < at {
+        return &file[..0];
+    }
+    &file[at..]
+}
+
+// What a record's four bytes mean: a step with its amount, or refusal 5 or 6.
+pub fn record(code: u8, middle: u8, low: u8, high: u8) -> Reading
+    ensures { λ r. ⌜ r ≡ recordOf code middle low high ⌝ }
+{
+    let reading = Step::of(code, low as u32 + 256 * (high as u32));
+    if middle == 0 {
+        return reading;
+    }
+    spoil(reading)
+}
+
+// With a middle byte that is not 0.
+fn spoil(reading: Reading) -> Reading
+    ensures { λ r. ⌜ r ≡ spoiled reading ⌝ }
+{
+    match reading {
+        Reading::Means(_) => Reading::WrongAmount,
+        Reading::WrongCode => Reading::WrongCode,
+        Reading::WrongAmount => Reading::WrongAmount,
+    }
+}

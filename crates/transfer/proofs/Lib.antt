@@ -1,0 +1,5 @@
+pub mod JoinLaws
+pub mod CutLaws
+pub mod Transfers
+pub mod Nights
+pub mod Determined

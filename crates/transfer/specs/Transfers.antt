@@ -1,0 +1,88 @@
+-- Document 01, "Step files, parts and writing": the parts of a file arrive one after the other and are joined in one buffer.
+-- Assumes nothing.
+use mathlib.Core.Path.{_≡_}
+use mathlib.Core.Bool.{cond}
+use mathlib.Core.List.{List, [], _∷_, _++_}
+use Prim.Native.Nat.{ℕ, zero, suc, _+_, _≤_, max}
+use lib.Dec.{leb}
+use lib.ListN.{length, take, drop}
+use Rattle.transfer.specs.declared.Joined.{Joined}
+use Rattle.transfer.specs.Join.{joined, bufferAfter}
+
+-- a part, with the offset that it is said to be cut at
+pub record Arrival : Type 0 where
+  pub offset : ℕ
+  pub part : List ℕ
+
+-- a buffer, with the count held in it
+pub record Store : Type 0 where
+  pub buffer : List ℕ
+  pub held : ℕ
+
+abbrev pub empty : List ℕ → Store
+empty buffer = record { buffer = buffer; held = 0 }
+
+-- what the join of a part answers, and what is stored after it; and after all of a list of parts, whichever are refused
+abbrev pub answer : Store → Arrival → Joined
+answer s a = joined (s .buffer) (s .held) (a .offset) (a .part)
+
+abbrev pub after : Store → Arrival → Store
+after s a = record { buffer = bufferAfter (s .buffer) (s .held) (a .offset) (a .part); held = answer s a .held }
+
+abbrev pub afterAll : Store → List Arrival → Store
+afterAll s [] = s
+afterAll s (a ∷ arrivals) = afterAll (after s a) arrivals
+
+-- one join: the bytes held before stay as they were, and so do those beyond the new count
+abbrev pub Unchanged : Store → Store → Type 0
+Unchanged s t =
+    (take (s .held) (t .buffer) ≡ take (s .held) (s .buffer)) × (drop (t .held) (t .buffer) ≡ drop (t .held) (s .buffer))
+
+-- one join: the answer is the number n, and what is stored stays as it was
+abbrev pub Keeps : ℕ → Store → Arrival → Type 0
+Keeps n s a = (answer s a ≡ record { number = n; held = s .held }) × (after s a ≡ s)
+
+-- the part is cut from the file at its stated offset
+pub record Cut (file : List ℕ) (a : Arrival) : Type 0 where
+  pub within : a .offset + length (a .part) ≤ length file
+  pub bytes : a .part ≡ take (length (a .part)) (drop (a .offset) file)
+
+-- every part is; every part that is accepted is
+abbrev pub AllCut : List ℕ → List Arrival → Type 0
+AllCut file [] = Unit {0}
+AllCut file (a ∷ arrivals) = Cut file a × AllCut file arrivals
+
+abbrev pub AcceptedCut : List ℕ → Store → List Arrival → Type 0
+AcceptedCut file s [] = Unit {0}
+AcceptedCut file s (a ∷ arrivals) = (answer s a .number ≡ 0 → Cut file a) × AcceptedCut file (after s a) arrivals
+
+-- the held bytes are a beginning of the file
+pub record Begins (file : List ℕ) (s : Store) : Type 0 where
+  pub within : s .held ≤ length file
+  pub bytes : take (s .held) (s .buffer) ≡ take (s .held) file
+
+-- how far parts reach from `end` on without a gap, in the order in which they arrive: one that begins beyond what is reached adds
+-- nothing
+abbrev pub reached : ℕ → List Arrival → ℕ
+reached end [] = end
+reached end (a ∷ arrivals) = reached (cond (leb (a .offset) end) (max end (a .offset + length (a .part))) end) arrivals
+
+-- the parts cover a file of `size` bytes from `end` on, in order of offset: none begins beyond what those before it reach
+abbrev pub Cover : ℕ → ℕ → List Arrival → Type 0
+Cover size end [] = end ≡ size
+Cover size end (a ∷ arrivals) = (a .offset ≤ end) × Cover size (max end (a .offset + length (a .part))) arrivals
+
+-- a block that is the last of the bytes held, and a block under an offset
+abbrev pub holding : List ℕ → List ℕ → List ℕ → Store
+holding before block room = record { buffer = before ++ block ++ room; held = length before + length block }
+
+abbrev pub under : ℕ → List ℕ → Arrival
+under offset block = record { offset = offset; part = block }
+
+-- forty steps, in four bytes each: ticks of 1 to 40 milliseconds
+abbrev pub ticks : ℕ → ℕ → List ℕ
+ticks n zero = []
+ticks n (suc count) = 12 ∷ 0 ∷ n ∷ 0 ∷ ticks (suc n) count
+
+abbrev pub fortySteps : List ℕ
+fortySteps = ticks 1 40

@@ -1,0 +1,64 @@
+-- Laws on judging a part record by record, after some that were accepted before.
+-- Assumes nothing.
+use mathlib.Core.Path.{_≡_, refl, sym, ap, _∙_}
+use mathlib.Core.Bool.{cond}
+use mathlib.Core.List.{List, []}
+use Prim.Native.Nat.{ℕ, zero, suc, _+_, _≤_, _<_}
+use native.Mathlib.Nat.{add-zero}
+use native.Mathlib.Omega.{arith}
+use lib.ListN.{length, drop}
+use borrow.Author.Tests.{eq-eqb}
+use Rattle.limits.specs.declared.Table.{Table}
+use Rattle.promises.proofs.Runs.{counted, counted-one, goes-on, stops}
+use Rattle.shift.specs.declared.State.{State}
+use Rattle.shift.specs.declared.Answer.{Answer}
+use Rattle.shift.specs.States.{start}
+use Rattle.shift.specs.Answers.{judged}
+use Rattle.shift.specs.Runs.{Outcome, run}
+use Rattle.stepfile.specs.declared.Refusal.{Refusal}
+use Rattle.stepfile.specs.Records.{recordAt, recordsIn}
+use Rattle.stepfile.specs.Files.{tableIn, refusalOf, fromOffset, recordBytes, readingsOf}
+use Rattle.stepfile.proofs.RecordLaws.{one-more, no-more}
+use Rattle.verdict.specs.Verdicts.{ofRun, unread, reading, verdictOf}
+
+-- what is left of a part from a place on
+abbrev pub left : Table → List ℕ → State → ℕ → ℕ → Outcome
+left t l s k i = counted k (run t s (recordsIn (drop i l)))
+
+module _ (t : Table) (l : List ℕ) (s : State) (k i : ℕ) where
+  module _ (h : i + 3 < length l) (a : Answer) (e : a ≡ judged t s (recordAt l i)) where
+    pub accepted : a .number ≡ 0 → left t l s k i ≡ left t l (a .state) (k + 1) (i + 4)
+    accepted z =
+        let rest = recordsIn (drop (i + 4) l) in
+        ap (λ rs. counted k (run t s rs)) (one-more l i h)
+        ∙ ap (counted k) (goes-on t s (recordAt l i) rest a e z)
+        ∙ counted-one k s (run t (a .state) rest)
+
+    pub refused : ¬ (a .number ≡ 0) → left t l s k i ≡ record { count = k; number = a .number; state = s }
+    refused n =
+        ap (λ rs. counted k (run t s rs)) (one-more l i h)
+        ∙ ap (counted k) (stops t s (recordAt l i) (recordsIn (drop (i + 4) l)) a e n)
+        ∙ ap (λ c. record { count = c; number = a .number; state = s }) (add-zero k)
+
+  pub ended : length l ≤ i + 3 → left t l s k i ≡ record { count = k; number = 0; state = s }
+  ended h =
+      ap (λ rs. counted k (run t s rs)) (no-more l i h) ∙ ap (λ c. record { count = c; number = 0; state = s }) (add-zero k)
+
+-- ---- a file that is not read, and one that is
+not-read : (k : ℕ) (r : Refusal) (o : Outcome) → ¬ (k ≡ 0) → unread r ≡ reading k r o
+not-read zero r o n = absurd (n refl)
+not-read (suc k) r o n = refl
+
+read : (k : ℕ) (r : Refusal) (o : Outcome) → k ≡ 0 → ofRun o ≡ reading k r o
+read zero r o z = refl
+read (suc k) r o z = absurd (omega arith)
+
+module _ (f : List ℕ) where
+  pub unread-file : ¬ (refusalOf f .number ≡ 0) → unread (refusalOf f) ≡ verdictOf f
+  unread-file = not-read (refusalOf f .number) (refusalOf f) (run (tableIn f) start (readingsOf f))
+
+  pub read-file : refusalOf f .number ≡ 0 → ofRun (run (tableIn f) start (recordsIn (fromOffset f))) ≡ verdictOf f
+  read-file z =
+      let bytes : fromOffset f ≡ recordBytes f = ap (λ b. cond b (fromOffset f) []) (sym (eq-eqb (refusalOf f .number) 0 z)) in
+      ap (λ l. ofRun (run (tableIn f) start (recordsIn l))) bytes
+      ∙ read (refusalOf f .number) (refusalOf f) (run (tableIn f) start (readingsOf f)) z
