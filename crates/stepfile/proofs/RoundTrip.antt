@@ -209,3 +209,13 @@ read-is-writable f b e all =
       ap (λ rs. firstWrong 0 (map codeOf rs) (map amountOf rs) .number) (records-in f b e all)
           ∙ none-wrong 0 (records f b e all) (steps-in f b e all),
     )
+
+-- ---- a good file has as many records as its header says
+pub as-many-records : (f : List ℕ) → refusalOf f .number ≡ 0 → length (readingsOf f) ≡ recordCount f
+as-many-records f e =
+    let g = good-file f e in
+    let w = g .whole in
+    let ends = 12 + 2 * tableEntries f in
+    let d = length-drop ends f in
+    ap length (records-from f e (omega arith) ∙ ap (λ i. recordsIn (drop i f)) (g .follow))
+    ∙ records-count (recordCount f) (drop ends f) (omega arith)

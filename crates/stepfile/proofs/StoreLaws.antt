@@ -22,6 +22,10 @@ sets-append l i (x ∷ xs) ys =
     let s = set l i x in
     sets-append s (suc i) xs ys ∙ ap (λ n. sets (sets s (suc i) xs) n ys) (omega arith)
 
+-- two stores, of a number's two bytes
+pub two-stores : (l : List ℕ) (i a b : ℕ) → set (set l i a) (i + 1) b ≡ sets l i (a ∷ b ∷ [])
+two-stores l i a b = rw (add-one i)
+
 -- ---- the entries of a table
 module _ (l es : List ℕ) (i : ℕ) where
   pub entry-stored :

@@ -57,8 +57,10 @@ module _ (f : List ℕ) where
   pub unread-file : ¬ (refusalOf f .number ≡ 0) → unread (refusalOf f) ≡ verdictOf f
   unread-file = not-read (refusalOf f .number) (refusalOf f) (run (tableIn f) start (readingsOf f))
 
+  pub read-verdict : refusalOf f .number ≡ 0 → ofRun (run (tableIn f) start (readingsOf f)) ≡ verdictOf f
+  read-verdict = read (refusalOf f .number) (refusalOf f) (run (tableIn f) start (readingsOf f))
+
   pub read-file : refusalOf f .number ≡ 0 → ofRun (run (tableIn f) start (recordsIn (fromOffset f))) ≡ verdictOf f
   read-file z =
       let bytes : fromOffset f ≡ recordBytes f = ap (λ b. cond b (fromOffset f) []) (sym (eq-eqb (refusalOf f .number) 0 z)) in
-      ap (λ l. ofRun (run (tableIn f) start (recordsIn l))) bytes
-      ∙ read (refusalOf f .number) (refusalOf f) (run (tableIn f) start (readingsOf f)) z
+      ap (λ l. ofRun (run (tableIn f) start (recordsIn l))) bytes ∙ read-verdict z

@@ -1,2 +1,4 @@
 pub mod Judging
+pub mod Verdicts
+pub mod LongInputs
 pub mod Determined

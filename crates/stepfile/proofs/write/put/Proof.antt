@@ -1,9 +1,10 @@
 -- `put` meets its contract: two stores.
 -- Assumes nothing.
-use native.Mathlib.Numerals.{add-one}
+use Prim.Native.Nat.{_/_, _%_}
 use native.Mathlib.Omega.{arith}
 use lib.ListN.{length-set}
 use borrow.Author.Needs.{needs}
+use Rattle.stepfile.proofs.StoreLaws.{two-stores}
 use Rattle.stepfile.proofs.write.put.Statement.{statement}
 use Rattle.stepfile.proofs.write.put.Tie as tie
 
@@ -17,4 +18,4 @@ put-spec =
     (λ c. search needs)
     (λ c. simp length-set (omega arith))
     (λ c. search needs)
-    (λ c. rw (add-one (c .args .at))))
+    (λ c. let a = c .args in two-stores (a .out .now) (a .at) (a .n % 256) (a .n / 256)))
