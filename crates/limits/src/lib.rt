@@ -8,6 +8,7 @@ ghost use Rattle.limits.specs.Limits.{default, entries, tableOf};
 ghost use Rattle.limits.specs.Rules.{atLeast1, rules, brokenRule};
 
 // The limits under the manual's names, in milliseconds, in the order of their entry numbers 0 to 17.
+#[repr(C)]
 pub struct Table {
     pub channel_dl: u16,
     pub engine_sync_dl: u16,

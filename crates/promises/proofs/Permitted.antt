@@ -2,10 +2,10 @@
 -- Assumes nothing.
 use mathlib.Core.Path.{_≡_, refl}
 use mathlib.Core.Logic.{_⊎_, inl, inr, ⊎-elim, _↔_}
-use mathlib.Core.Bool.{Bool, true, false, cond, _||_}
+use mathlib.Core.Bool.{cond, _||_}
 use Prim.Native.Nat.{ℕ, _+_, _≤_, _<_}
 use native.Mathlib.Omega.{arith}
-use lib.Dec.{T, leb, eqb, leb→le, le→leb, eqb→eq}
+use lib.Dec.{T, leb, eqb, eqb→eq}
 use borrow.Author.Tests.{eqb-true, eqb-false, leb-true, leb-false}
 use Rattle.checks.specs.Checks.{Holds}
 use Rattle.checks.proofs.Tests.{tests, case, passes, either}
@@ -19,10 +19,10 @@ use Rattle.shift.specs.declared.Reading.{Reading}
 use Rattle.shift.specs.declared.Reading.the-variants.{Means, WrongCode, WrongAmount}
 use Rattle.shift.specs.declared.Step.{Step}
 use Rattle.shift.specs.declared.Step.the-variants.{FromNeutral, GearToGear, ToNeutral, Deliver, DeviceGood, DeviceFailed, EngineWaits, Take, AskClutch, RaiseError, Finish, Tick}
-use Rattle.shift.specs.Steps.{stageLimit, takeBound, askBound, stageBound, phaseBound, limited, inTickTime}
+use Rattle.shift.specs.Steps.{stageLimit, takeBound, stageBound, phaseBound, limited, inTickTime}
 use Rattle.shift.specs.Answers.{checks, guard}
 use Rattle.shift.proofs.StepLaws.{in-engine, no-engine, limits, limited-in, shifting}
-use Rattle.promises.specs.Allowed.{Listed, Shifting, Syncing, Zeroing, Engine, InTime, Allowed, Permitted}
+use Rattle.promises.specs.Allowed.{Shifting, Syncing, Zeroing, Engine, InTime, Permitted}
 use Rattle.promises.proofs.Runs.{checked}
 
 -- ---- the engine phases by their numbers, and by their orders

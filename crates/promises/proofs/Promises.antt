@@ -1,7 +1,7 @@
 -- The customer's demands 2 and 3 over the rules, as theorems. Each holds for every table, state and list of readings that it names;
 -- none assumes anything. The laws that they rest on stand in the files beside this one.
 -- Assumes nothing.
-use mathlib.Core.Path.{_≡_, ap}
+use mathlib.Core.Path.{_≡_}
 use mathlib.Core.Logic.{_↔_}
 use mathlib.Core.List.{List, _++_}
 use Prim.Native.Nat.{_≤_}

@@ -2,7 +2,7 @@
 -- Assumes nothing.
 use mathlib.Core.Path.{_≡_, refl}
 use mathlib.Core.Logic.{⊎-elim}
-use mathlib.Core.List.{[], _∷_, _++_}
+use mathlib.Core.List.{[], _∷_}
 use Prim.Native.Nat.{ℕ, zero, suc, _≤_}
 use native.Mathlib.Omega.{arith}
 use types.Run.{OneOf}
@@ -16,8 +16,8 @@ use Rattle.shift.specs.declared.Step.the-variants.{FromNeutral, GearToGe
 use Rattle.shift.specs.declared.Reading.{Reading}
 use Rattle.shift.specs.declared.Reading.the-variants.{Means, WrongCode, WrongAmount}
 use Rattle.shift.specs.declared.Answer.{Answer}
-use Rattle.shift.specs.Steps.{allowed, effect}
-use Rattle.shift.specs.Answers.{listed, refusal, checks, guard, refused, answer, judged, admitting}
+use Rattle.shift.specs.Steps.{effect}
+use Rattle.shift.specs.Answers.{refusal, checks, guard, refused, answer, judged, admitting}
 use Rattle.shift.proofs.Reading.{the-type}
 
 pub refuses : (k : ℕ) (next s : State) → ¬ (k ≡ 0) → refused k s ≡ answer k next s

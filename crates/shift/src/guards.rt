@@ -1,9 +1,8 @@
 // The number that refuses a step, or 0: for each step its checks, in the order of their numbers.
 ghost use mathlib.Core.Path.{_≡_};
-ghost use mathlib.Core.List.{[], _∷_, _++_};
 ghost use mathlib.Core.Bool.{cond};
 ghost use lib.Dec.{ltb, eqb};
-ghost use Rattle.checks.specs.Checks.{_!_, first};
+ghost use Rattle.checks.specs.Checks.{first};
 ghost use Rattle.phases.specs.Phases.{unfinished};
 ghost use Rattle.shift.specs.declared.Reading.the-variants.{Means};
 ghost use Rattle.shift.specs.Steps.{restsIn, shiftsIn, inDevice, inEngine, inTakeTime, inAskTime, inTickTime, isDone, stageBound, phaseBound, limited};

@@ -7,6 +7,7 @@ use limits::Table;
 mod effects;
 mod guards;
 
+#[repr(C)]
 pub struct State {
     pub clock: u32,
     pub gear_box: u8,

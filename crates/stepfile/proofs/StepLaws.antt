@@ -16,7 +16,7 @@ use Rattle.stepfile.specs.Writing.{wrongOr, firstWrong, recordsOf}
 use Rattle.stepfile.specs.RoundTrip.{readingsBy, AllRead}
 
 -- ---- codes and amounts that are all steps
-right : (k i : ℕ) (w : Wrong) → wrongOr k i w .number ≡ 0 → (k ≡ 0) × (w .number ≡ 0)
+pub right : (k i : ℕ) (w : Wrong) → wrongOr k i w .number ≡ 0 → (k ≡ 0) × (w .number ≡ 0)
 right zero i w e = (refl, e)
 right (suc k) i w e = absurd (omega arith)
 

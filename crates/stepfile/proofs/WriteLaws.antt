@@ -1,6 +1,6 @@
 -- Laws on what the writer answers and leaves in the buffer, by the check that it stops at.
 -- Assumes nothing.
-use mathlib.Core.Path.{_≡_, refl, sym, ap, _∙_}
+use mathlib.Core.Path.{_≡_, sym, ap, _∙_}
 use mathlib.Core.Bool.{cond}
 use mathlib.Core.List.{List, [], _∷_, _++_}
 use Prim.Native.Nat.{ℕ, zero, suc, _≤_, _<_, zero-le}
@@ -18,8 +18,8 @@ use Rattle.shift.specs.declared.Step.{Step}
 use Rattle.shift.specs.Answers.{plain, ticking, reading, readings, refusal}
 use Rattle.stepfile.specs.declared.write.Wish.{Wish}
 use Rattle.stepfile.specs.declared.write.Written.{Written}
-use Rattle.stepfile.specs.declared.write.Wrong.{Wrong}
-use Rattle.stepfile.specs.Writing.{wished, fileOf, sizeOf, firstWrong, wrongOr, writable, refusedWith, fitting, afterRecords, afterLists, writtenOf, bufferAfter}
+use Rattle.stepfile.specs.Writing.{wished, fileOf, sizeOf, firstWrong, writable, refusedWith, fitting, afterRecords, afterLists, writtenOf, bufferAfter}
+use Rattle.stepfile.proofs.StepLaws.{right}
 
 module _ (w : Wish) (cs ns out : List ℕ) where
   -- the writer's answer and the buffer after it
@@ -104,15 +104,11 @@ amount-small c n e =
       | no h ↦ let q = rw (List·getD-eq-default (readings n) WrongCode {n = c} (omega arith)) at e in absurd (omega arith)
     ]
 
-both-right : (k i : ℕ) (r : Wrong) → wrongOr k i r .number ≡ 0 → (k ≡ 0) × (r .number ≡ 0)
-both-right zero i r e = (refl, e)
-both-right (suc k) i r e = absurd (omega arith)
-
 pub amounts-small : (i : ℕ) (cs ns : List ℕ) → length cs ≡ length ns → firstWrong i cs ns .number ≡ 0 → (j : ℕ) → getD ns j 0 < 65536
 amounts-small i [] [] e z j = omega arith
 amounts-small i [] (n ∷ ns) e z j = absurd (omega arith)
 amounts-small i (c ∷ cs) [] e z j = absurd (omega arith)
 amounts-small i (c ∷ cs) (n ∷ ns) e z zero =
-    amount-small c n (both-right (refusal (reading c n)) i (firstWrong (suc i) cs ns) z .0)
+    amount-small c n (right (refusal (reading c n)) i (firstWrong (suc i) cs ns) z .0)
 amounts-small i (c ∷ cs) (n ∷ ns) e z (suc j) =
-    amounts-small (suc i) cs ns (omega arith) (both-right (refusal (reading c n)) i (firstWrong (suc i) cs ns) z .1) j
+    amounts-small (suc i) cs ns (omega arith) (right (refusal (reading c n)) i (firstWrong (suc i) cs ns) z .1) j

@@ -1,9 +1,8 @@
 -- `fields` meets its contract: one return for each check, and one where all hold.
 -- Assumes nothing.
-use mathlib.Core.Path.{_≡_, sym}
-use mathlib.Core.Bool.{Bool, true, false, not, _&&_, _||_}
+use mathlib.Core.Path.{sym}
 use native.Mathlib.Omega.{arith}
-use lib.Dec.{T, eqb}
+use lib.Dec.{eqb}
 use Rattle.checks.proofs.Tests.{tests}
 use Rattle.checks.proofs.Checks.{refused, holds→first}
 use Rattle.stepfile.specs.Files.{headedBy}

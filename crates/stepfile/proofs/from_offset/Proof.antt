@@ -1,8 +1,8 @@
 -- `from_offset` meets its contract: nothing of a file without a header or that ends before the offset, else what stands there.
 -- Assumes nothing.
-use mathlib.Core.Path.{sym, ap, _∙_}
+use mathlib.Core.Path.{sym}
 use native.Mathlib.Omega.{arith}
-use lib.ListN.{length, drop, drop-of-length-le}
+use lib.ListN.{length, drop-of-length-le}
 use borrow.Author.Needs.{needs}
 use borrow.Author.Tests.{le-leb, lt-leb}
 use borrow.Rule.Slice.PartAt.{part-to-end}

@@ -1,7 +1,7 @@
 -- `table` meets its contract: the default in a file that is too short or has no entries, else the entries that stand there.
 -- Assumes nothing.
 use native.Mathlib.Omega.{arith}
-use mathlib.Core.Path.{_≡_, sym, _∙_}
+use mathlib.Core.Path.{sym, _∙_}
 use lib.ListN.{length}
 use borrow.Author.Tests.{le-leb, lt-leb, eq-eqb, ne-eqb}
 use Rattle.stepfile.specs.Files.{tableEntries, tableIn}

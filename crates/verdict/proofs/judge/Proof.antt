@@ -1,13 +1,10 @@
 -- `judge` meets its contract: a file that is refused with 1 to 4, or its records under its table.
 -- Assumes nothing.
-use mathlib.Core.Path.{_≡_, sym, ap, _∙_}
+use mathlib.Core.Path.{sym, ap, _∙_}
 use Rattle.shift.specs.declared.State.{State}
 use Rattle.shift.specs.States.{start}
-use Rattle.shift.specs.Runs.{run}
 use Rattle.stepfile.specs.declared.Refusal.{Refusal}
-use Rattle.stepfile.specs.Records.{recordsIn}
-use Rattle.stepfile.specs.Files.{refusalOf, fromOffset}
-use Rattle.verdict.specs.Verdicts.{ofRun, unread}
+use Rattle.verdict.specs.Verdicts.{unread}
 use Rattle.verdict.proofs.Judging.{unread-file, read-file}
 use Rattle.verdict.proofs.judge.Statement.{statement}
 use Rattle.verdict.proofs.judge.Tie as tie

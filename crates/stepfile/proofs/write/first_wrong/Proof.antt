@@ -4,7 +4,6 @@ use Prim.Native.Nat.{_-_, _≤_}
 use mathlib.Core.Path.{_≡_, refl, sym, ap, _∙_}
 use native.Mathlib.Omega.{arith}
 use lib.ListN.{length, drop}
-use borrow.Author.Needs.{needs}
 use Rattle.shift.specs.Answers.{refusal}
 use Rattle.stepfile.specs.Writing.{firstWrong}
 use Rattle.stepfile.proofs.StoreLaws.{right-here, wrong-here, none-left, none-paired}

@@ -1,9 +1,8 @@
 -- `write` meets its contract: one return for each refusal, which leaves the buffer, and one with the file in it.
 -- Assumes nothing.
-use mathlib.Core.Path.{_≡_, sym, ap, _∙_}
+use mathlib.Core.Path.{sym, ap, _∙_}
 use Prim.Native.Nat.{_≤_}
 use native.Mathlib.Omega.{arith}
-use lib.Dec.{T}
 use lib.ListN.{length}
 use borrow.Author.Needs.{needs}
 use Rattle.checks.proofs.Tests.{tests, eq→eqb, ne→neqb}
