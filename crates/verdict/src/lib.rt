@@ -39,7 +39,11 @@ pub fn judge(file: &[u8]) -> Verdict
             state,
         };
     }
-    judge_records(stepfile::table(file), stepfile::from_offset(file))
+    judge_records(
+        State::start(),
+        stepfile::table(file),
+        stepfile::from_offset(file),
+    )
 }
 
 // Lays the line of a file's verdict at the start of `out`, or answers 15 and changes no byte.
@@ -81,11 +85,11 @@ fn word_of(number: u8) -> Word
     Word::Refused
 }
 
-// Judges records from the start state, under a table that has been tested.
-fn judge_records(table: Table, records: &[u8]) -> Verdict
-    ensures { λ r. ⌜ r ≡ ofRun (run table start (recordsIn (now (records .entry)))) ⌝ }
+// Judges records from any state on, under a table that has been tested. What is left over behind them is no record.
+pub fn judge_records(first: State, table: Table, records: &[u8]) -> Verdict
+    ensures { λ r. ⌜ r ≡ ofRun (run table first (recordsIn (now (records .entry)))) ⌝ }
 {
-    let mut state = State::start();
+    let mut state = first;
     let mut index: usize = 0;
     let mut at: usize = 0;
     while at + 3 < records.len() {

@@ -1,0 +1,26 @@
+-- Document 01, "Numbers for what is refused": one record's four bytes on any given state and table, and a part's records one by one.
+-- Assumes nothing.
+use mathlib.Core.List.{List, [], _∷_}
+use Prim.Native.Nat.{ℕ}
+use Rattle.limits.specs.declared.Table.{Table}
+use Rattle.limits.specs.Rules.{brokenRule}
+use Rattle.shift.specs.declared.State.{State}
+use Rattle.shift.specs.declared.Answer.{Answer}
+use Rattle.shift.specs.Answers.{judged, admitting}
+use Rattle.shift.specs.Runs.{Outcome, after}
+use Rattle.stepfile.specs.Records.{recordOf}
+
+-- 4, with the rule, comes before all else
+unfoldable pub advancedOn : Table → State → ℕ → ℕ → ℕ → ℕ → Answer
+advancedOn t s code middle low high = admitting (brokenRule t) (judged t s (recordOf code middle low high)) s
+
+-- four bytes a call, each on the state that the one before answered, up to the first number that is not 0: how many were accepted,
+-- that number, and the state before it; what is left over is no record
+abbrev pub advancing : Table → State → List ℕ → Outcome
+advancing t s [] = record { count = 0; number = 0; state = s }
+advancing t s (a ∷ []) = record { count = 0; number = 0; state = s }
+advancing t s (a ∷ b ∷ []) = record { count = 0; number = 0; state = s }
+advancing t s (a ∷ b ∷ c ∷ []) = record { count = 0; number = 0; state = s }
+advancing t s (a ∷ b ∷ c ∷ d ∷ rest) =
+    let x = advancedOn t s a b c d in
+    after (x .number) s (advancing t (x .state) rest)

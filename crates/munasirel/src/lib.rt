@@ -1,0 +1,109 @@
+// What a host in C calls: judging, the limit table, the line, joining, writing, and advancing a state that the host keeps.
+ghost use mathlib.Core.Path.{_≡_};
+ghost use Rattle.limits.specs.Rules.{brokenRule};
+ghost use Rattle.stepfile.specs.Files.{tableIn};
+ghost use Rattle.line.specs.Laying.{laid, after};
+ghost use Rattle.transfer.specs.Join.{joined, bufferAfter};
+ghost use Rattle.verdict.specs.Verdicts.{verdictOf};
+ghost use Rattle.gateway.specs.Advancing.{advancedOn};
+ghost use Rattle.munasirel.specs.Calls.{lineFor, wishOf, writtenFor, outAfter};
+use limits::Table;
+use shift::State;
+use stepfile::write::Wish;
+
+// The number of the verdict on a file.
+#[no_mangle]
+pub extern "C" fn munasirel_judge(file: &[u8]) -> u8
+    ensures { λ r. ⌜ r ≡ verdictOf (now (file .entry)) .number ⌝ }
+{
+    verdict::judge(file).number
+}
+
+// The first rule that a table breaks, 0 for an admitted one.
+#[no_mangle]
+pub extern "C" fn munasirel_admit(table: Table) -> u8
+    ensures { λ r. ⌜ r ≡ brokenRule table ⌝ }
+{
+    table.broken_rule()
+}
+
+// The table of a good file.
+#[no_mangle]
+pub extern "C" fn munasirel_table(file: &[u8]) -> Table
+    ensures { λ r. ⌜ r ≡ tableIn (now (file .entry)) ⌝ }
+{
+    stepfile::table(file)
+}
+
+// Lays the line of a file's verdict into `out`: 0 and its length, or 15 and 0.
+#[no_mangle]
+pub extern "C" fn munasirel_line(file: &[u8], out: &mut [u8], length: &mut usize) -> u8
+    ensures { λ r. ⌜ (r ≡ laid (lineFor (now (file .entry))) (now (out .entry)) .number) × (now (length .exit) ≡ laid (lineFor (now (file .entry))) (now (out .entry)) .length) × (now (out .exit) ≡ after (lineFor (now (file .entry))) (now (out .entry))) ⌝ }
+{
+    let laid = verdict::line(file, out);
+    *length = laid.length;
+    laid.number
+}
+
+// Joins a part to the bytes held, and counts anew how many are.
+#[no_mangle]
+pub extern "C" fn munasirel_join(
+    buffer: &mut [u8],
+    held: &mut usize,
+    offset: usize,
+    part: &[u8],
+) -> u8
+    ensures { λ r. ⌜ (r ≡ joined (now (buffer .entry)) (now (held .entry)) offset (now (part .entry)) .number) × (now (held .exit) ≡ joined (now (buffer .entry)) (now (held .entry)) offset (now (part .entry)) .held) × (now (buffer .exit) ≡ bufferAfter (now (buffer .entry)) (now (held .entry)) offset (now (part .entry))) ⌝ }
+{
+    let joined = transfer::join(buffer, *held, offset, part);
+    *held = joined.held;
+    joined.number
+}
+
+// Writes a step file into `out`, of two lists of one length, with the table or, where `with_table` is 0, without one.
+#[no_mangle]
+pub extern "C" fn munasirel_write(
+    table: Table,
+    with_table: u8,
+    codes: &[u8],
+    amounts: &[u32],
+    out: &mut [u8],
+    length: &mut usize,
+    index: &mut usize,
+    rule: &mut u8,
+) -> u8
+    ensures { λ r. ⌜ (r ≡ writtenFor «with_table» table (now (codes .entry)) (now (amounts .entry)) (now (out .entry)) .number) × (now (length .exit) ≡ writtenFor «with_table» table (now (codes .entry)) (now (amounts .entry)) (now (out .entry)) .length) × (now (index .exit) ≡ writtenFor «with_table» table (now (codes .entry)) (now (amounts .entry)) (now (out .entry)) .index) × (now (rule .exit) ≡ writtenFor «with_table» table (now (codes .entry)) (now (amounts .entry)) (now (out .entry)) .rule) × (now (out .exit) ≡ outAfter «with_table» table (now (codes .entry)) (now (amounts .entry)) (now (out .entry))) ⌝ }
+{
+    let written = stepfile::write::write(wish_of(with_table, table), codes, amounts, out);
+    *length = written.length;
+    *index = written.index;
+    *rule = written.rule;
+    written.number
+}
+
+// 0 wishes for no table.
+fn wish_of(with_table: u8, table: Table) -> Wish
+    ensures { λ r. ⌜ r ≡ wishOf «with_table» table ⌝ }
+{
+    if with_table == 0 {
+        return Wish::NoTable;
+    }
+    Wish::Given(table)
+}
+
+// One record's four bytes on the lent state, which is as it was where they are refused.
+#[no_mangle]
+pub extern "C" fn munasirel_advance(
+    state: &mut State,
+    table: Table,
+    code: u8,
+    middle: u8,
+    low: u8,
+    high: u8,
+) -> u8
+    ensures { λ r. ⌜ (r ≡ advancedOn table (now (state .entry)) code middle low high .number) × (now (state .exit) ≡ advancedOn table (now (state .entry)) code middle low high .state) ⌝ }
+{
+    let a = gateway::advanced(*state, table, code, middle, low, high);
+    *state = a.state;
+    a.number
+}

@@ -1,0 +1,196 @@
+/* The functions of libmunasirel.a, as C and C++ programs call them.
+ *
+ * Nothing is allocated, no pointer is kept after a call, and there is no state but the caller's. So calls may run in several
+ * threads at once, as long as no call writes to what another one uses.
+ *
+ * Every pointer must be valid, aligned as its type asks and not NULL, even where the length behind it is 0. What a call writes must
+ * not overlap anything else that the call is given. With that, every input is allowed: what is wrong is refused by a number.
+ * A refused call changes no byte of a buffer, no count of bytes held and no state.
+ */
+#ifndef MUNASIREL_H
+#define MUNASIREL_H
+
+#include <stddef.h>
+#include <stdint.h>
+
+#ifdef __cplusplus
+extern "C" {
+#endif
+
+/* The numbers that a call answers. */
+enum {
+    MUNASIREL_ACCEPTED = 0,
+    MUNASIREL_TOO_SHORT = 1,            /* a file of fewer than 12 bytes */
+    MUNASIREL_BAD_HEADER = 2,           /* a header field is wrong, or too many records */
+    MUNASIREL_BAD_LENGTH = 3,           /* the file's length is wrong; for the writer, two lists of unequal length */
+    MUNASIREL_TABLE_NOT_ADMITTED = 4,   /* the table breaks a rule */
+    MUNASIREL_BAD_CODE = 5,             /* code 0 or above 12 */
+    MUNASIREL_BAD_AMOUNT = 6,           /* the middle byte or the amount is wrong */
+    MUNASIREL_NOT_ALLOWED = 7,          /* phase or stage does not allow the step, or the state is none that is listed */
+    MUNASIREL_WRONG_BOX = 8,            /* at rest, but the box is on the wrong side */
+    MUNASIREL_TOO_EARLY = 9,            /* the clutch is asked for too early */
+    MUNASIREL_TOO_LATE = 10,            /* taken too late */
+    MUNASIREL_PAST_PHASE_LIMIT = 11,    /* a tick past the phase limit */
+    MUNASIREL_PAST_STAGE_LIMIT = 12,    /* a tick past the channel or device limit */
+    MUNASIREL_PAST_CLOCK = 13,          /* the clock would pass 4,294,967,295 */
+    MUNASIREL_GAP = 14,                 /* a part begins beyond the bytes held */
+    MUNASIREL_NO_ROOM = 15,             /* what is held, joined or written does not fit */
+    MUNASIREL_OVERLAP_DIFFERS = 16      /* a part differs from the bytes held */
+};
+
+/* The codes of the twelve steps. A tick has an amount of 1 to 65,535, every other step the amount 0. */
+enum {
+    MUNASIREL_STEP_FROM_NEUTRAL = 1,
+    MUNASIREL_STEP_GEAR_TO_GEAR = 2,
+    MUNASIREL_STEP_TO_NEUTRAL = 3,
+    MUNASIREL_STEP_DELIVER = 4,
+    MUNASIREL_STEP_DEVICE_GOOD = 5,
+    MUNASIREL_STEP_DEVICE_FAILED = 6,
+    MUNASIREL_STEP_ENGINE_WAITS = 7,
+    MUNASIREL_STEP_TAKE = 8,
+    MUNASIREL_STEP_ASK_CLUTCH = 9,
+    MUNASIREL_STEP_RAISE_ERROR = 10,
+    MUNASIREL_STEP_FINISH = 11,
+    MUNASIREL_STEP_TICK = 12
+};
+
+/* Where the gear box stands. */
+enum { MUNASIREL_BOX_NEUTRAL = 0, MUNASIREL_BOX_IN_GEAR = 1 };
+
+/* The stages of a phase. */
+enum {
+    MUNASIREL_STAGE_NONE = 0,
+    MUNASIREL_STAGE_SENT = 1,
+    MUNASIREL_STAGE_WORKING = 2,
+    MUNASIREL_STAGE_GOOD = 3,
+    MUNASIREL_STAGE_FAILED = 4,
+    MUNASIREL_STAGE_WAITING = 5
+};
+
+/* The phases outside a shift. A shift is unfinished in phases 1 to 21. */
+enum { MUNASIREL_PHASE_AT_REST = 0, MUNASIREL_PHASE_DONE = 22, MUNASIREL_PHASE_ERROR = 23 };
+
+/* The most records of a file, the longest good file, and room for any line, in bytes. */
+#define MUNASIREL_MOST_RECORDS 16372
+#define MUNASIREL_LONGEST_FILE 65536
+#define MUNASIREL_LINE_ROOM 64
+
+/* The limit table: eighteen limits in milliseconds, in the order of their entry numbers 0 to 17. */
+typedef struct munasirel_limits {
+    uint16_t channel_dl;
+    uint16_t engine_sync_dl;
+    uint16_t engine_zero_dl;
+    uint16_t clutch_open_dl;
+    uint16_t clutch_close_dl;
+    uint16_t gear_set_dl;
+    uint16_t gear_release_dl;
+    uint16_t sync_ex;
+    uint16_t zero_ex;
+    uint16_t sync_dl;
+    uint16_t zero_dl;
+    uint16_t sync_de;
+    uint16_t zero_de;
+    uint16_t open_clutch_dl;
+    uint16_t set_gear_dl;
+    uint16_t release_dl;
+    uint16_t close_clutch_dl;
+    uint16_t change_dl;
+} munasirel_limits;
+
+/* The state of one vehicle's judge. At the start every field is 0. A call may change the padding bytes, so compare states field by
+ * field and never with memcmp. */
+typedef struct munasirel_state {
+    uint32_t clock;        /* in milliseconds */
+    uint8_t gear_box;      /* MUNASIREL_BOX_NEUTRAL or MUNASIREL_BOX_IN_GEAR */
+    uint8_t phase;         /* 0 to 23 */
+    uint32_t phase_time;   /* the clock when the phase was entered */
+    uint8_t stage;         /* MUNASIREL_STAGE_NONE to MUNASIREL_STAGE_WAITING */
+    uint32_t stage_time;   /* the clock when the stage was entered */
+    uint32_t request_time; /* the clock at the request of the shift, 0 at rest */
+    uint8_t failed_phase;  /* in phase 23 the phase that was left, else 0 */
+} munasirel_state;
+
+/* Judges a step file from the start state.
+ *   file, file_length   the file's bytes, any number of them
+ * Returns 0 where the file is accepted, or the number that refuses it, 1 to 13. */
+uint8_t munasirel_judge(const uint8_t *file, size_t file_length);
+
+/* Tests a limit table.
+ * Returns 0 where the table is admitted, or the number of the first rule that it breaks, 1 to 15. */
+uint8_t munasirel_admit(munasirel_limits table);
+
+/* The limit table of a step file.
+ *   file, file_length   the file's bytes
+ * Returns the eighteen entries where the header says 18 and they are there, else the default table; whether the file is good is not
+ * looked at. With a length of 0 it is a way to get the default table. */
+munasirel_limits munasirel_table(const uint8_t *file, size_t file_length);
+
+/* Lays the line of a file's verdict into a buffer: the word accepted, refused or unread, then the records accepted, the number that
+ * refuses the file or 0, clock, phase and box, and a line feed. No zero byte ends it.
+ *   file, file_length   the file's bytes
+ *   out, out_length     where the line is laid, at the start; the bytes after it stay as they are
+ *   line_length         is set to the line's length, or to 0 where it is refused
+ * Returns 0, or 15 where the line does not fit; then no byte of out is changed. */
+uint8_t munasirel_line(const uint8_t *file, size_t file_length, uint8_t *out, size_t out_length, size_t *line_length);
+
+/* Joins a part of a file to the bytes held of it. A part may repeat bytes that are held, but not skip any.
+ *   buffer, buffer_length   the first *held bytes are held; the rest of the part is put behind them, all other bytes stay
+ *   held                    how many bytes are held, 0 at first; is set to the larger of itself and offset + part_length, or kept
+ *                           where the part is refused
+ *   offset                  where in the file the part begins
+ *   part, part_length       the part's bytes, any number of them
+ * Returns 0, or 15 where *held exceeds the buffer, 14 where the part begins beyond *held, 15 where it does not fit the buffer, or
+ * 16 where it differs from the bytes held, tested in this order. A refused part changes no byte. */
+uint8_t munasirel_join(uint8_t *buffer, size_t buffer_length, size_t *held, size_t offset, const uint8_t *part, size_t part_length);
+
+/* Writes a step file.
+ *   table                     the table to write
+ *   with_table                0 for a file without a table, to be judged under the default; then table is not looked at
+ *   codes, codes_length       the steps' codes
+ *   amounts, amounts_length   the steps' amounts; both lengths count elements
+ *   out, out_length           where the file is written, at the start; the bytes after it stay as they are
+ *   length                    is set to the file's length, or to 0 where it is refused
+ *   index                     is set to the index of the wrong record with 5 and 6, else to 0
+ *   rule                      is set to the number of the broken rule with 4, else to 0
+ * Returns 0, or 3 for lists of unequal length, 2 for more than 16,372 records, 4 for a table that is not admitted, 5 or 6 for the
+ * first record with a wrong code or amount, or 15 where the file does not fit, tested in this order. A refused call changes no byte
+ * of out. Whether the steps are allowed one after the other is not tested: that is for the judge. */
+uint8_t munasirel_write(munasirel_limits table, uint8_t with_table, const uint8_t *codes, size_t codes_length,
+                        const uint32_t *amounts, size_t amounts_length, uint8_t *out, size_t out_length, size_t *length,
+                        size_t *index, uint8_t *rule);
+
+/* Advances a running judge by one record.
+ *   state                     is advanced where it stands; where the record is refused every field is kept. Any state may be given
+ *   table                     the limits to judge under
+ *   code, middle, low, high   the record's four bytes in their order
+ * Returns 0, or the number that refuses the record: 4, 5, 6, 7, then 8, 9 or 10; for a tick 4, 5, 6, 7, 13, 12, 11, tested in this
+ * order. */
+uint8_t munasirel_advance(munasirel_state *state, munasirel_limits table, uint8_t code, uint8_t middle, uint8_t low, uint8_t high);
+
+#ifdef __cplusplus
+}
+#endif
+
+/* The layout that the library was compiled for. */
+#ifdef __cplusplus
+#define MUNASIREL_HOLDS(fact) static_assert(fact, #fact)
+#else
+#define MUNASIREL_HOLDS(fact) _Static_assert(fact, #fact)
+#endif
+MUNASIREL_HOLDS(sizeof(size_t) == 8);
+MUNASIREL_HOLDS(sizeof(munasirel_limits) == 36);
+MUNASIREL_HOLDS(offsetof(munasirel_limits, channel_dl) == 0);
+MUNASIREL_HOLDS(offsetof(munasirel_limits, sync_dl) == 18);
+MUNASIREL_HOLDS(offsetof(munasirel_limits, change_dl) == 34);
+MUNASIREL_HOLDS(sizeof(munasirel_state) == 28);
+MUNASIREL_HOLDS(offsetof(munasirel_state, clock) == 0);
+MUNASIREL_HOLDS(offsetof(munasirel_state, gear_box) == 4);
+MUNASIREL_HOLDS(offsetof(munasirel_state, phase) == 5);
+MUNASIREL_HOLDS(offsetof(munasirel_state, phase_time) == 8);
+MUNASIREL_HOLDS(offsetof(munasirel_state, stage) == 12);
+MUNASIREL_HOLDS(offsetof(munasirel_state, stage_time) == 16);
+MUNASIREL_HOLDS(offsetof(munasirel_state, request_time) == 20);
+MUNASIREL_HOLDS(offsetof(munasirel_state, failed_phase) == 24);
+#undef MUNASIREL_HOLDS
+
+#endif

@@ -1,0 +1,5 @@
+/* Stands in for <stdint.h> where the kit's compiler, which brings no headers, compiles the C files. */
+typedef __UINT8_TYPE__ uint8_t;
+typedef __UINT16_TYPE__ uint16_t;
+typedef __UINT32_TYPE__ uint32_t;
+#define SIZE_MAX __SIZE_MAX__

@@ -1,0 +1,687 @@
+/* Calls every function of the library from C, with good input and with bad input of every kind, and ends in 'N passed, M failed'.
+ *
+ * Whatever a call is lent lies between guard bytes, and every case looks at them afterwards. What is expected comes from document
+ * 01, by hand or by the small file maker below. The known runs are written as they are there: a number is a step, tN a tick. */
+#include <stdio.h>
+#include <string.h>
+
+#include "munasirel.h"
+
+/* ---- counting */
+static unsigned passed, failed;
+
+static void check(const char *function, const char *name, const char *what, int holds)
+{
+    if (holds) {
+        passed++;
+    } else {
+        failed++;
+        printf("%s, %s: wrong %s\n", function, name, what);
+    }
+}
+
+/* ---- what is lent: copies between guard bytes, and a second copy to compare with */
+enum { GUARD = 64, GUARD_BYTE = 0xa5, ARENA = 1 << 19 };
+
+static _Alignas(8) uint8_t arena[ARENA];
+static _Alignas(8) uint8_t before[ARENA];
+static struct { size_t at, size; } lent[8];
+static size_t lents, used = ARENA - GUARD;
+
+static void fresh(void)
+{
+    memset(arena, GUARD_BYTE, used + GUARD);
+    used = 0;
+    lents = 0;
+}
+
+static void *lend(const void *content, size_t size)
+{
+    size_t at = (used + GUARD + 7) / 8 * 8;
+    if (size > 0) {
+        memcpy(arena + at, content, size);
+        memcpy(before + at, content, size);
+    }
+    lent[lents].at = at;
+    lent[lents].size = size;
+    lents++;
+    used = at + size;
+    return arena + at;
+}
+
+/* All bytes outside of what is lent are guard bytes still. */
+static int guarded(void)
+{
+    size_t from = 0;
+    for (size_t i = 0; i <= lents; i++) {
+        size_t to = i < lents ? lent[i].at : used + GUARD;
+        for (; from < to; from++)
+            if (arena[from] != GUARD_BYTE)
+                return 0;
+        if (i < lents)
+            from += lent[i].size;
+    }
+    return 1;
+}
+
+/* What was lent at this address is as it was, from a place on. */
+static int kept(const void *address, size_t from)
+{
+    size_t at = (size_t)((const uint8_t *)address - arena);
+    for (size_t i = 0; i < lents; i++)
+        if (lent[i].at == at)
+            return from <= lent[i].size && memcmp(arena + at + from, before + at + from, lent[i].size - from) == 0;
+    return 0;
+}
+
+/* ---- step files, made by hand */
+static const munasirel_limits normal = {5,   100, 200, 150, 150, 300, 200, 150, 250,
+                                        155, 255, 151, 251, 200, 350, 250, 200, 1500};
+static const char *const K1 = "1 t5 4 t100 5 t5 8 4 t300 5 8 11";
+static const char *const K11 = "1 t5 4 t100 5 t5 8 4 t300 5 8 11 3 4 5 8 4 6 10 11";
+
+static uint8_t codes[MUNASIREL_MOST_RECORDS + 1];
+static uint32_t amounts[MUNASIREL_MOST_RECORDS + 1];
+static size_t steps;
+static uint8_t made[MUNASIREL_LONGEST_FILE + 64];
+static size_t made_length;
+
+/* The codes and amounts of a list of steps; tN is a tick. */
+static void list(const char *text)
+{
+    steps = 0;
+    while (*text) {
+        int tick = *text == 't';
+        uint32_t number = 0;
+        for (text += tick; *text >= '0' && *text <= '9'; text++)
+            number = 10 * number + (uint32_t)(*text - '0');
+        codes[steps] = tick ? 12 : (uint8_t)number;
+        amounts[steps] = tick ? number : 0;
+        steps++;
+        while (*text == ' ')
+            text++;
+    }
+}
+
+/* So many ticks of one amount. */
+static void ticks(size_t count, uint32_t amount)
+{
+    for (steps = 0; steps < count; steps++) {
+        codes[steps] = 12;
+        amounts[steps] = amount;
+    }
+}
+
+static void put(size_t number, unsigned size)
+{
+    for (; size > 0; size--, number >>= 8)
+        made[made_length++] = (uint8_t)number;
+}
+
+/* The file of the list, with a table or, where there is none, without. */
+static void make_list(const munasirel_limits *table)
+{
+    uint16_t entries[18];
+    unsigned k = table ? 18 : 0;
+    made_length = 0;
+    put(12, 2);
+    put(k, 2);
+    put(12 + 2 * k, 4);
+    put(steps, 4);
+    if (table)
+        memcpy(entries, table, sizeof entries);
+    for (unsigned i = 0; i < k; i++)
+        put(entries[i], 2);
+    for (size_t i = 0; i < steps; i++) {
+        put(codes[i], 2);
+        put(amounts[i], 2);
+    }
+}
+
+static void make(const char *text)
+{
+    list(text);
+    make_list(NULL);
+}
+
+static void make_with(munasirel_limits table, const char *text)
+{
+    list(text);
+    make_list(&table);
+}
+
+static munasirel_limits with(unsigned entry, unsigned limit)
+{
+    munasirel_limits table = normal;
+    uint16_t entries[18];
+    memcpy(entries, &table, sizeof entries);
+    entries[entry] = (uint16_t)limit;
+    memcpy(&table, entries, sizeof table);
+    return table;
+}
+
+/* ---- munasirel_judge, on the file made */
+static void judges(const char *name, unsigned want)
+{
+    fresh();
+    uint8_t *file = lend(made, made_length);
+    check("judge", name, "number", munasirel_judge(file, made_length) == want);
+    check("judge", name, "bytes", guarded() && kept(file, 0));
+}
+
+/* The same with one byte of the file changed. */
+static void judges_byte(const char *name, size_t at, unsigned byte, unsigned want)
+{
+    uint8_t was = made[at];
+    made[at] = (uint8_t)byte;
+    judges(name, want);
+    made[at] = was;
+}
+
+/* 10 and 13 never come up in a file: rules 2 and 3 of the table forbid a late take, and 16,372 ticks do not fill the clock. */
+static void judging(void)
+{
+    make(K1), judges("K1", 0);
+    make_with(normal, K1), judges("K1 with its table", 0);
+    make(""), judges("K2", 0);
+    make("1 t5"), judges("K3 with 5", 0);
+    make("1 t6"), judges("K3", 12);
+    make("1 t5 4 t101"), judges("K4", 12);
+    make("1 4 7 t150 9"), judges("K5", 9);
+    make("1 4 7 t151 9"), judges("K6", 0);
+    make("1 4 7 t155"), judges("K7 with 155", 0);
+    make("1 4 7 t156"), judges("K7", 11);
+    make("2"), judges("K8", 8);
+    make("3"), judges("to neutral, in neutral", 8);
+    make("1 1"), judges("K9", 7);
+    make("1 4 6"), judges("K10", 7);
+    make(K11), judges("K11", 7);
+    make_with(with(17, 1404), K1), judges("K12", 4);
+    make_with(with(17, 1405), K1), judges("K12 with 1,405", 0);
+    make_with(with(0, 0), K1), judges("a limit of 0", 4);
+    make_with(with(0, 6), "1 t6"), judges("K3 under a looser table", 0);
+    make_with(with(0, 4), "1 t5"), judges("5 under a tighter table", 12);
+    made_length = 0, judges("nothing", 1);
+    make(""), made_length = 11, judges("11 bytes", 1);
+
+    make(K1);
+    judges_byte("table offset 13", 0, 13, 2);
+    judges_byte("table offset 268", 1, 1, 2);
+    judges_byte("17 entries", 2, 17, 2);
+    judges_byte("256 entries", 3, 1, 2);
+    judges_byte("18 entries, record offset 12", 2, 18, 2);
+    judges_byte("record offset 48, no entries", 4, 48, 2);
+    judges_byte("record offset above 16 bits", 6, 1, 2);
+    judges_byte("16,396 records in the header", 9, 64, 2);
+    judges_byte("a count above 16 bits", 10, 1, 2);
+    judges_byte("a count above 24 bits", 11, 255, 2);
+    judges_byte("one record too few", 8, 13, 3);
+    judges_byte("one record too many", 8, 11, 3);
+    judges_byte("code 0", 12, 0, 5);
+    judges_byte("code 13", 12, 13, 5);
+    judges_byte("code 255", 12, 255, 5);
+    judges_byte("a middle byte", 13, 1, 6);
+    judges_byte("an amount for a request, low", 14, 1, 6);
+    judges_byte("an amount for a request, high", 15, 1, 6);
+    judges_byte("a tick of 0", 18, 0, 6);
+    judges_byte("an amount for the last step", made_length - 1, 128, 6);
+    made[13] = 1, judges_byte("code 13 and a middle byte", 12, 13, 5);
+    make(K1), made_length--, judges("a byte too few", 3);
+    make(K1), made[made_length++] = 0, judges("a byte too many", 3);
+    make_with(with(0, 0), K1), made_length--, judges("3 before 4", 3);
+    make_with(with(0, 0), "13"), judges("4 before 5", 4);
+    make("t1 13 1 1"), judges("the first wrong record decides", 5);
+    make("1 1 13"), judges("and no later one", 7);
+
+    ticks(MUNASIREL_MOST_RECORDS, 65535), make_list(&normal), judges("the longest file", 0);
+    made[made_length++] = 0, judges("the longest file and a byte", 3);
+    ticks(MUNASIREL_MOST_RECORDS, 65535), make_list(NULL), judges("the longest file without a table", 0);
+    ticks(MUNASIREL_MOST_RECORDS + 1, 1), make_list(NULL), judges("16,373 records", 2);
+    memset(made, 0, sizeof made), made_length = 65537, judges("65,537 zero bytes", 2);
+}
+
+/* ---- munasirel_admit */
+static void admits(const char *name, munasirel_limits table, unsigned want)
+{
+    check("admit", name, "rule", munasirel_admit(table) == want);
+}
+
+static void admitting(void)
+{
+    static const struct { const char *name; unsigned entry, limit, rule; } one[] = {
+        {"2, just kept", 7, 110, 0},      {"2", 7, 109, 2},
+        {"3, just kept", 8, 210, 0},      {"3", 8, 209, 3},
+        {"4, just kept", 13, 161, 0},     {"4", 13, 160, 4},
+        {"5, just kept", 16, 161, 0},     {"5", 16, 160, 5},
+        {"6, just kept", 14, 311, 0},     {"6", 14, 310, 6},
+        {"7, just kept", 15, 211, 0},     {"7", 15, 210, 7},
+        {"8", 11, 150, 8},                {"9", 12, 250, 9},
+        {"10, just kept", 11, 155, 0},    {"10", 11, 156, 10},
+        {"11, just kept", 12, 255, 0},    {"11", 12, 256, 11},
+        {"12", 17, 904, 12},              {"14, not 12 or 13", 17, 905, 14},
+        {"14", 17, 1404, 14},             {"14, just kept", 17, 1405, 0},
+        {"2, twice 32,768", 0, 32768, 2}, {"12, a sum above 16 bits", 9, 65535, 12},
+        {"5, a sum above 16 bits", 4, 65530, 5},
+    };
+    admits("the default", normal, 0);
+    for (unsigned i = 0; i < 18; i++)
+        admits("1, an entry of 0", with(i, 0), 1);
+    for (size_t i = 0; i < sizeof one / sizeof *one; i++)
+        admits(one[i].name, with(one[i].entry, one[i].limit), one[i].rule);
+    munasirel_limits table = with(10, 256);
+    table.change_dl = 905, admits("13", table, 13);
+    table.zero_dl = 1000, table.change_dl = 1999, admits("15", table, 15);
+    table.change_dl = 2000, admits("15, just kept", table, 0);
+    memset(&table, 255, sizeof table), admits("all 65,535", table, 2);
+    memset(&table, 0, sizeof table), admits("all 0", table, 1);
+}
+
+/* ---- munasirel_table, on the file made */
+static void tables(const char *name, munasirel_limits want)
+{
+    fresh();
+    uint8_t *file = lend(made, made_length);
+    munasirel_limits got = munasirel_table(file, made_length);
+    check("table", name, "table", memcmp(&got, &want, sizeof got) == 0);
+    check("table", name, "bytes", guarded() && kept(file, 0));
+}
+
+static void tabling(void)
+{
+    munasirel_limits odd = {1, 2, 3, 4, 5, 6, 7, 8, 9, 10, 11, 12, 13, 14, 15, 16, 17, 65534};
+    make(K1), tables("no entries", normal);
+    make_with(with(17, 4660), K1), tables("eighteen entries", with(17, 4660));
+    make_with(odd, ""), tables("a table that is not admitted", odd);
+    make_with(odd, ""), made[0] = 13, tables("a bad header", odd);
+    make_with(odd, K1), made_length--, tables("a wrong length", odd);
+    make_with(odd, ""), made_length--, tables("47 bytes", normal);
+    make_with(odd, K1), made[2] = 17, tables("seventeen entries", normal);
+    made_length = 11, tables("11 bytes", normal);
+    made_length = 3, tables("3 bytes", normal);
+    made_length = 0, tables("nothing", normal);
+}
+
+/* ---- munasirel_line, on the file made, with so much room less or more than the line needs */
+static void lines_in(const char *name, const char *want, size_t room)
+{
+    uint8_t bytes[128];
+    size_t length = 77, wanted = strlen(want), fits = wanted <= room;
+    fresh();
+    memset(bytes, 'x', sizeof bytes);
+    uint8_t *file = lend(made, made_length);
+    uint8_t *out = lend(bytes, room);
+    size_t *line_length = lend(&length, sizeof length);
+    uint8_t number = munasirel_line(file, made_length, out, room, line_length);
+    check("line", name, "number", number == (fits ? 0 : 15));
+    check("line", name, "length", *line_length == (fits ? wanted : 0));
+    check("line", name, "line", !fits || memcmp(out, want, wanted) == 0);
+    check("line", name, "bytes", guarded() && kept(file, 0) && kept(out, fits ? wanted : 0));
+}
+
+static void lines(const char *name, const char *want)
+{
+    lines_in(name, want, strlen(want));
+    lines_in(name, want, strlen(want) + 20);
+    lines_in(name, want, strlen(want) - 1);
+    lines_in(name, want, 0);
+}
+
+static void lining(void)
+{
+    make(K1), lines("K1", "accepted 12 0 410 0 1\n");
+    make(""), lines("K2", "accepted 0 0 0 0 0\n");
+    make("1 4 7 t150 9"), lines("K5", "refused 4 9 150 1 0\n");
+    make("1 4 7 t151 9"), lines("K6", "accepted 5 0 151 2 0\n");
+    make(K11), lines("K11", "refused 19 7 410 23 1\n");
+    made_length = 0, lines("nothing", "unread 0 1 0 0 0\n");
+    make(K1), made[0] = 13, lines("a bad header", "unread 0 2 0 0 0\n");
+    make(K1), made_length--, lines("a wrong length", "unread 0 3 0 0 0\n");
+    make_with(with(17, 1404), K1), lines("K12", "unread 0 4 0 0 0\n");
+    make("t7 13"), lines("code 13", "refused 1 5 7 0 0\n");
+    make("t0"), lines("a tick of 0", "refused 0 6 0 0 0\n");
+    ticks(MUNASIREL_MOST_RECORDS, 65535), make_list(NULL), lines("the longest file", "accepted 16372 0 1072939020 0 0\n");
+}
+
+/* ---- munasirel_join: the buffer has 'abcdefgh' and then '.', of which some are held */
+static void joins(const char *name, size_t room, size_t held_before, size_t offset, const char *text, unsigned want,
+                  size_t held_after)
+{
+    uint8_t expected[16];
+    fresh();
+    uint8_t *buffer = lend("abcdefgh........", room);
+    size_t *held = lend(&held_before, sizeof held_before);
+    uint8_t *part = lend(text, strlen(text));
+    memcpy(expected, "abcdefgh........", sizeof expected);
+    for (size_t i = 0; want == 0 && i < strlen(text); i++)
+        if (offset + i >= held_before)
+            expected[offset + i] = (uint8_t)text[i];
+    check("join", name, "number", munasirel_join(buffer, room, held, offset, part, strlen(text)) == want);
+    check("join", name, "count", *held == held_after);
+    check("join", name, "buffer", memcmp(buffer, expected, room) == 0);
+    check("join", name, "bytes", guarded() && kept(part, 0));
+}
+
+static void joining(void)
+{
+    joins("the first part", 16, 0, 0, "xyz", 0, 3);
+    joins("behind what is held", 16, 8, 8, "ijk", 0, 11);
+    joins("up to the end of the buffer", 16, 8, 8, "ijklmnop", 0, 16);
+    joins("with an overlap", 16, 8, 5, "fghij", 0, 10);
+    joins("with an overlap of all", 16, 8, 0, "abcdefghi", 0, 9);
+    joins("a repeated part", 16, 8, 0, "abcdefgh", 0, 8);
+    joins("a part wholly inside", 16, 8, 2, "cd", 0, 8);
+    joins("bytes beyond held don't matter", 16, 3, 3, "xyz", 0, 6);
+    joins("an empty part at 0", 16, 0, 0, "", 0, 0);
+    joins("an empty part at held", 16, 8, 8, "", 0, 8);
+    joins("an empty part inside", 16, 8, 3, "", 0, 8);
+    joins("an empty part, the buffer full", 8, 8, 8, "", 0, 8);
+    joins("nothing into nothing", 0, 0, 0, "", 0, 0);
+    joins("14", 16, 8, 9, "j", 14, 8);
+    joins("14 of an empty part", 16, 8, 9, "", 14, 8);
+    joins("14 at the largest offset", 16, 8, SIZE_MAX, "j", 14, 8);
+    joins("14 before 15", 16, 8, 15, "pqr", 14, 8);
+    joins("15, a byte too many", 8, 8, 8, "i", 15, 8);
+    joins("15, with an overlap", 8, 8, 6, "ghi", 15, 8);
+    joins("15 before 16", 8, 8, 6, "xyz", 15, 8);
+    joins("15 for held", 8, 9, 0, "abc", 15, 9);
+    joins("15 for held, an empty part", 8, 9, 9, "", 15, 9);
+    joins("15 for held before 14", 8, 9, 10, "x", 15, 9);
+    joins("15 for the largest held", 8, SIZE_MAX, 0, "x", 15, SIZE_MAX);
+    joins("16 at the first byte", 16, 8, 5, "xghij", 16, 8);
+    joins("16 at the last byte of the overlap", 16, 8, 5, "fgxij", 16, 8);
+    joins("16 wholly inside", 16, 8, 2, "cx", 16, 8);
+    joins("16, a part at the wrong offset", 16, 8, 7, "ijk", 16, 8);
+
+    for (size_t size = 1; size < 60; size += 7) {
+        uint8_t empty[64];
+        size_t zero = 0, refused = 0;
+        make(K1);
+        fresh();
+        memset(empty, 0, sizeof empty);
+        uint8_t *buffer = lend(empty, 60);
+        size_t *held = lend(&zero, sizeof zero);
+        uint8_t *file = lend(made, 60);
+        for (size_t at = 0; at < 60; at += size)
+            refused += munasirel_join(buffer, 60, held, at, file + at, at + size < 60 ? size : 60 - at);
+        check("join", "a file in parts", "file", refused == 0 && *held == 60 && memcmp(buffer, made, 60) == 0);
+        check("join", "a file in parts", "bytes", guarded() && kept(file, 0));
+    }
+}
+
+/* ---- munasirel_write, of the list, with so many codes and amounts of it; room counts from the file's length */
+struct written { unsigned number; size_t index; unsigned rule; };
+
+static void writes(const char *name, const munasirel_limits *table, unsigned with_table, size_t code_count, size_t amount_count,
+                   int room, struct written want)
+{
+    static uint8_t bytes[MUNASIREL_LONGEST_FILE + 64];
+    size_t odd = 77, size, out_length;
+    make_list(with_table ? table : NULL);
+    size = want.number == 0 ? made_length : 0;
+    out_length = made_length < sizeof bytes - 32 ? (size_t)((long)made_length + room) : 0;
+    memset(bytes, 'x', sizeof bytes);
+    fresh();
+    uint8_t *in = lend(codes, code_count);
+    uint32_t *of = lend(amounts, 4 * amount_count);
+    uint8_t *out = lend(bytes, out_length);
+    size_t *length = lend(&odd, sizeof odd);
+    size_t *index = lend(&odd, sizeof odd);
+    uint8_t *rule = lend(&odd, 1);
+    uint8_t number =
+        munasirel_write(*table, (uint8_t)with_table, in, code_count, of, amount_count, out, out_length, length, index, rule);
+    check("write", name, "number", number == want.number);
+    check("write", name, "length", *length == size);
+    check("write", name, "index", *index == want.index);
+    check("write", name, "rule", *rule == want.rule);
+    check("write", name, "file", memcmp(out, made, size) == 0);
+    check("write", name, "bytes", guarded() && kept(in, 0) && kept(of, 0) && kept(out, size));
+}
+
+/* All of the list. */
+static void writes_all(const char *name, const munasirel_limits *table, unsigned with_table, int room, struct written want)
+{
+    writes(name, table, with_table, steps, steps, room, want);
+}
+
+static void writing(void)
+{
+    const struct written good = {0, 0, 0}, full = {15, 0, 0}, unequal = {3, 0, 0}, many = {2, 0, 0};
+    const munasirel_limits bad = with(17, 1404), worse = with(0, 0);
+    list(K1);
+    writes_all("K1 with a table", &normal, 1, 0, good);
+    writes_all("K1 with a table, more room", &normal, 255, 9, good);
+    writes_all("K1 without a table", &normal, 0, 0, good);
+    writes_all("K1 without a table, more room", &normal, 0, 9, good);
+    writes_all("no table, a bad one not looked at", &bad, 0, 0, good);
+    writes_all("15 with a table", &normal, 1, -1, full);
+    writes_all("15 without a table", &normal, 0, -1, full);
+    writes_all("15, no room at all", &normal, 0, -60, full);
+    writes_all("4", &bad, 1, 0, (struct written){4, 0, 14});
+    writes_all("4 before 15", &worse, 1, -90, (struct written){4, 0, 1});
+    writes("3, fewer amounts", &normal, 1, steps, steps - 1, 0, unequal);
+    writes("3, fewer codes", &normal, 0, steps - 1, steps, 0, unequal);
+    writes("3, no amounts", &normal, 0, steps, 0, 0, unequal);
+    writes("3 before 4 and 15", &bad, 1, 0, steps, -90, unequal);
+    list("13"), writes("3 before 5", &normal, 0, 1, 0, 0, unequal);
+    list(""), writes_all("no steps", &normal, 0, 0, good);
+    list(""), writes_all("no steps, a table", &normal, 1, 0, good);
+    list(""), writes_all("no steps, 11 bytes", &normal, 0, -1, full);
+    list("1 13 4"), writes_all("5", &normal, 1, 0, (struct written){5, 1, 0});
+    list("0"), writes_all("5, code 0", &normal, 0, 0, (struct written){5, 0, 0});
+    list("1 4 255"), writes_all("5 before 15", &normal, 0, -5, (struct written){5, 2, 0});
+    list("13"), writes_all("4 before 5", &bad, 1, 0, (struct written){4, 0, 14});
+    list("t65535"), writes_all("the largest tick", &normal, 0, 0, good);
+    list("1 t65536"), writes_all("6, a tick too large", &normal, 0, 0, (struct written){6, 1, 0});
+    list("t4294967295"), writes_all("6, the largest amount", &normal, 0, 0, (struct written){6, 0, 0});
+    list("4 5 t0 13"), writes_all("6, a tick of 0, before a later 5", &normal, 1, 0, (struct written){6, 2, 0});
+    list("4 5 13 t0"), writes_all("5 before a later 6", &normal, 1, -1, (struct written){5, 2, 0});
+    list("1 2 3 11"), amounts[3] = 1, writes_all("6, an amount for a finish", &normal, 0, 0, (struct written){6, 3, 0});
+    list("13"), amounts[0] = 1, writes_all("5 before 6 in one record", &normal, 0, 0, (struct written){5, 0, 0});
+    list("2 1 1 10"), writes_all("steps that the judge refuses", &normal, 1, 0, good);
+
+    list("1 t300");
+    writes_all("two steps", &normal, 0, 0, good);
+    static const uint8_t two[] = {12, 0, 0, 0, 12, 0, 0, 0, 2, 0, 0, 0, 1, 0, 0, 0, 12, 0, 44, 1};
+    check("write", "two steps", "bytes of the file maker", made_length == sizeof two && memcmp(made, two, sizeof two) == 0);
+
+    ticks(MUNASIREL_MOST_RECORDS, 65535);
+    writes_all("the longest file", &normal, 1, 0, good);
+    writes_all("the longest file, no table", &normal, 0, 0, good);
+    writes_all("the longest file, 15", &normal, 1, -1, full);
+    steps++, codes[steps - 1] = 12, amounts[steps - 1] = 1;
+    writes_all("2", &normal, 0, 0, many);
+    writes_all("2 before 4", &bad, 1, 0, many);
+    writes("3 before 2", &normal, 0, steps, steps - 1, 0, unequal);
+    codes[0] = 13, writes_all("2 before 5", &normal, 0, -9, many);
+}
+
+/* ---- munasirel_advance. A state is written clock, box, phase, phase time, stage, stage time, request time, failed phase. */
+#define S(...) ((munasirel_state){__VA_ARGS__})
+
+static int same_state(const munasirel_state *a, const munasirel_state *b)
+{
+    return a->clock == b->clock && a->gear_box == b->gear_box && a->phase == b->phase && a->phase_time == b->phase_time &&
+           a->stage == b->stage && a->stage_time == b->stage_time && a->request_time == b->request_time &&
+           a->failed_phase == b->failed_phase;
+}
+
+static void advances(const char *name, munasirel_limits table, munasirel_state from, unsigned code, unsigned middle,
+                     unsigned amount, unsigned want, munasirel_state to)
+{
+    fresh();
+    munasirel_state *state = lend(&from, sizeof from);
+    uint8_t number =
+        munasirel_advance(state, table, (uint8_t)code, (uint8_t)middle, (uint8_t)(amount % 256), (uint8_t)(amount / 256));
+    check("advance", name, "number", number == want);
+    check("advance", name, "state", same_state(state, &to));
+    check("advance", name, "bytes", guarded());
+}
+
+static void takes(const char *name, munasirel_state from, unsigned code, unsigned amount, munasirel_state to)
+{
+    advances(name, normal, from, code, 0, amount, 0, to);
+}
+
+static void refuses(const char *name, munasirel_state from, unsigned code, unsigned amount, unsigned want)
+{
+    advances(name, normal, from, code, 0, amount, want, from);
+}
+
+/* The steps one after the other, with the phase after each. */
+static void walks(const char *name, munasirel_state from, const char *text, const uint8_t *phases, munasirel_state to)
+{
+    fresh();
+    munasirel_state *state = lend(&from, sizeof from);
+    int good = 1;
+    list(text);
+    for (size_t i = 0; i < steps; i++) {
+        good &= munasirel_advance(state, normal, codes[i], 0, (uint8_t)(amounts[i] % 256), (uint8_t)(amounts[i] / 256)) == 0;
+        good &= state->phase == phases[i];
+    }
+    check("advance", name, "numbers or phases", good);
+    check("advance", name, "end", same_state(state, &to));
+    check("advance", name, "bytes", guarded());
+}
+
+static void advancing_runs(void)
+{
+    static const struct { unsigned code, amount; munasirel_state to; } k1[] = {
+        {1, 0, {0, 0, 1, 0, 1, 0, 0, 0}},           {12, 5, {5, 0, 1, 0, 1, 0, 0, 0}},
+        {4, 0, {5, 0, 1, 0, 2, 5, 0, 0}},           {12, 100, {105, 0, 1, 0, 2, 5, 0, 0}},
+        {5, 0, {105, 0, 1, 0, 3, 105, 0, 0}},       {12, 5, {110, 0, 1, 0, 3, 105, 0, 0}},
+        {8, 0, {110, 0, 3, 110, 1, 110, 0, 0}},     {4, 0, {110, 0, 3, 110, 2, 110, 0, 0}},
+        {12, 300, {410, 0, 3, 110, 2, 110, 0, 0}},  {5, 0, {410, 0, 3, 110, 3, 410, 0, 0}},
+        {8, 0, {410, 1, 22, 410, 0, 410, 0, 0}},    {11, 0, {410, 1, 0, 410, 0, 410, 0, 0}},
+        {12, 90, {500, 1, 0, 410, 0, 410, 0, 0}},   {2, 0, {500, 1, 6, 500, 1, 500, 500, 0}},
+        {12, 2, {502, 1, 6, 500, 1, 500, 500, 0}},  {4, 0, {502, 1, 6, 500, 2, 502, 500, 0}},
+        {7, 0, {502, 1, 6, 500, 5, 502, 500, 0}},   {12, 249, {751, 1, 6, 500, 5, 502, 500, 0}},
+        {9, 0, {751, 1, 7, 751, 1, 751, 500, 0}},   {4, 0, {751, 1, 7, 751, 2, 751, 500, 0}},
+        {12, 150, {901, 1, 7, 751, 2, 751, 500, 0}}, {6, 0, {901, 1, 7, 751, 4, 901, 500, 0}},
+        {12, 50, {951, 1, 7, 751, 4, 901, 500, 0}}, {10, 0, {951, 1, 23, 951, 0, 951, 500, 7}},
+        {12, 65535, {66486, 1, 23, 951, 0, 951, 500, 7}},
+    };
+    munasirel_state at = S(0);
+    for (size_t i = 0; i < sizeof k1 / sizeof *k1; i++) {
+        takes("K1, then gear to gear into an error", at, k1[i].code, k1[i].amount, k1[i].to);
+        at = k1[i].to;
+    }
+    for (unsigned code = 1; code < 12; code++)
+        refuses("after an error", at, code, 0, 7);
+
+    munasirel_state in_gear = S(10, 1, 0, 10, 0, 10, 0, 0);
+    walks("from neutral, by the clutch", S(0), "1 4 7 t151 9 4 5 8 4 5 8 4 5 8 11",
+          (const uint8_t[]){1, 1, 1, 1, 2, 2, 2, 4, 4, 4, 5, 5, 5, 22, 0}, S(151, 1, 0, 151, 0, 151, 0, 0));
+    walks("gear to gear", in_gear, "2 4 5 8 4 5 8 4 5 8 4 5 8",
+          (const uint8_t[]){6, 6, 6, 8, 8, 8, 10, 10, 10, 12, 12, 12, 22}, S(10, 1, 22, 10, 0, 10, 10, 0));
+    walks("gear to gear, by the clutch", in_gear, "2 4 7 t251 9 4 5 8 4 5 8 4 5 8 4 5 8",
+          (const uint8_t[]){6, 6, 6, 6, 7, 7, 7, 9, 9, 9, 14, 14, 14, 16, 16, 16, 22}, S(261, 1, 22, 261, 0, 261, 10, 0));
+    walks("gear to gear, by the clutch later", in_gear, "2 4 5 8 4 5 8 4 7 t151 9 4 5 8 4 5 8 4 6 10",
+          (const uint8_t[]){6, 6, 6, 8, 8, 8, 10, 10, 10, 10, 11, 11, 11, 13, 13, 13, 15, 15, 15, 23},
+          S(161, 1, 23, 161, 0, 161, 10, 15));
+    walks("to neutral", in_gear, "3 4 5 8 4 5 8", (const uint8_t[]){17, 17, 17, 19, 19, 19, 22}, S(10, 0, 22, 10, 0, 10, 10, 0));
+    walks("to neutral, by the clutch", in_gear, "3 4 7 t251 9 4 5 8 4 5 8 4 5 8 11",
+          (const uint8_t[]){17, 17, 17, 17, 18, 18, 18, 20, 20, 20, 21, 21, 21, 22, 0}, S(261, 0, 0, 261, 0, 261, 0, 0));
+}
+
+static void advancing_steps(void)
+{
+    const munasirel_state rest = S(0), odd = S(1, 2, 24, 3, 6, 4, 5, 255), late = S(4294967295, 0, 1, 0, 2, 0, 0, 0);
+    const munasirel_limits bad = with(17, 1404);
+    advances("4", bad, rest, 1, 0, 0, 4, rest);
+    advances("4 before 5 and 6", bad, rest, 13, 1, 0, 4, rest);
+    advances("4 before 7", with(3, 0), odd, 1, 0, 0, 4, odd);
+    refuses("5, code 0", rest, 0, 0, 5);
+    refuses("5, code 13", rest, 13, 0, 5);
+    refuses("5, code 255, before 6 and 7", odd, 255, 9, 5);
+    advances("5 before 6 for a middle byte", normal, rest, 13, 1, 0, 5, rest);
+    advances("6, a middle byte", normal, rest, 1, 1, 0, 6, rest);
+    advances("6, a middle byte of a tick", normal, rest, 12, 128, 5, 6, rest);
+    for (unsigned code = 1; code < 12; code++) {
+        refuses("6, a low amount", rest, code, 1, 6);
+        refuses("6, a high amount", rest, code, 256, 6);
+    }
+    refuses("6, a tick of 0, before 7", odd, 12, 0, 6);
+    refuses("7, phase 24", S(0, 0, 24, 0, 0, 0, 0, 0), 12, 1, 7);
+    refuses("7, phase 255", S(0, 0, 255, 0, 0, 0, 0, 0), 1, 0, 7);
+    refuses("7, stage 6", S(0, 0, 0, 0, 6, 0, 0, 0), 12, 1, 7);
+    refuses("7, stage 255", S(0, 0, 0, 0, 255, 0, 0, 0), 1, 0, 7);
+    refuses("7, box 2, before 8", S(0, 2, 0, 0, 0, 0, 0, 0), 1, 0, 7);
+    refuses("7, box 255", S(0, 255, 22, 0, 0, 0, 0, 0), 11, 0, 7);
+    refuses("7 before 13", S(4294967295, 2, 0, 0, 0, 0, 0, 0), 12, 1, 7);
+    for (unsigned code = 4; code < 12; code++)
+        refuses("7, at rest", rest, code, 0, 7);
+    for (unsigned code = 1; code < 11; code++)
+        refuses("7, in done", S(9, 1, 22, 9, 0, 9, 0, 0), code, 0, 7);
+    /* In phase 2 each stage allows one step, but working two, and none and waiting no step at all. */
+    static const uint8_t allowed[6][2] = {{0, 0}, {4, 4}, {5, 6}, {8, 8}, {10, 10}, {0, 0}};
+    for (uint8_t stage = 0; stage < 6; stage++)
+        for (unsigned code = 1; code < 12; code++)
+            if (code != allowed[stage][0] && code != allowed[stage][1])
+                refuses("7, in phase 2", S(0, 0, 2, 0, stage, 0, 0, 0), code, 0, 7);
+    refuses("7, an engine does not fail", S(0, 1, 17, 0, 2, 0, 0, 0), 6, 0, 7);
+    refuses("7, only an engine waits", S(0, 1, 18, 0, 2, 0, 0, 0), 7, 0, 7);
+    takes("an error of an engine phase", S(7, 1, 10, 0, 4, 0, 3, 0), 10, 0, S(7, 1, 23, 7, 0, 7, 3, 10));
+    takes("at rest with stage good", S(7, 0, 0, 1, 3, 1, 9, 8), 1, 0, S(7, 0, 1, 7, 1, 7, 7, 0));
+    refuses("8, from neutral in gear", S(0, 1, 0, 0, 0, 0, 0, 0), 1, 0, 8);
+    refuses("8, gear to gear in neutral", rest, 2, 0, 8);
+    refuses("8, to neutral in neutral", rest, 3, 0, 8);
+
+    takes("ask at 151", S(151, 0, 1, 0, 5, 0, 0, 0), 9, 0, S(151, 0, 2, 151, 1, 151, 0, 0));
+    refuses("9, ask at 150", S(150, 0, 1, 0, 5, 0, 0, 0), 9, 0, 9);
+    takes("ask for zero torque at 251", S(251, 1, 17, 0, 5, 0, 0, 0), 9, 0, S(251, 1, 18, 251, 1, 251, 0, 0));
+    refuses("9, ask for zero torque at 250", S(250, 1, 6, 0, 5, 0, 0, 0), 9, 0, 9);
+    refuses("9, a sum above 32 bits", S(200, 0, 1, 4294967295, 5, 0, 0, 0), 9, 0, 9);
+    takes("K13 at 150", S(150, 0, 1, 0, 3, 0, 0, 0), 8, 0, S(150, 0, 3, 150, 1, 150, 0, 0));
+    refuses("10, K13 at 151", S(151, 0, 1, 0, 3, 0, 0, 0), 8, 0, 10);
+    takes("take zero torque at 250", S(250, 1, 6, 0, 3, 0, 0, 0), 8, 0, S(250, 1, 8, 250, 1, 250, 0, 0));
+    refuses("10, take zero torque at 251", S(251, 1, 17, 0, 3, 0, 0, 0), 8, 0, 10);
+    takes("take after any time", S(9999, 0, 4, 0, 3, 0, 0, 0), 8, 0, S(9999, 0, 5, 9999, 1, 9999, 0, 0));
+    takes("take, a sum above 32 bits", S(4294967295, 0, 1, 4294967295, 3, 0, 0, 0), 8, 0,
+          S(4294967295, 0, 3, 4294967295, 1, 4294967295, 0, 0));
+
+    /* By the phases' orders: the phase limits 9, 10, 13, 14, 15 and 16, with stage waiting, and the device limits 1 to 6. */
+    static const struct { uint8_t phase; unsigned longest, device; } limit[] = {
+        {1, 155, 100},  {2, 200, 150},  {3, 350, 300},  {4, 350, 300},  {5, 200, 150},  {6, 255, 200},  {7, 200, 150},
+        {8, 250, 200},  {9, 250, 200},  {10, 155, 100}, {11, 200, 150}, {12, 350, 300}, {13, 350, 300}, {14, 350, 300},
+        {15, 200, 150}, {16, 200, 150}, {17, 255, 200}, {18, 200, 150}, {19, 250, 200}, {20, 250, 200}, {21, 200, 150},
+    };
+    for (size_t i = 0; i < sizeof limit / sizeof *limit; i++) {
+        munasirel_state waiting = S(0, 0, limit[i].phase, 0, 5, 0, 0, 0), working = S(0, 0, limit[i].phase, 0, 2, 0, 0, 0);
+        munasirel_state waited = waiting, worked = working;
+        waited.clock = limit[i].longest, worked.clock = limit[i].device;
+        takes("up to the phase limit", waiting, 12, limit[i].longest, waited);
+        refuses("11", waiting, 12, limit[i].longest + 1, 11);
+        takes("up to the device limit", working, 12, limit[i].device, worked);
+        refuses("12, working", working, 12, limit[i].device + 1, 12);
+    }
+    takes("stage none, the phase limit alone", S(0, 0, 1, 0, 0, 0, 0, 0), 12, 155, S(155, 0, 1, 0, 0, 0, 0, 0));
+    refuses("11, stage none", S(0, 0, 1, 0, 0, 0, 0, 0), 12, 156, 11);
+    refuses("11, stage failed", S(0, 0, 2, 0, 4, 0, 0, 0), 12, 201, 11);
+    refuses("11, a late stage time", S(100, 0, 1, 0, 2, 100, 0, 0), 12, 56, 11);
+    takes("sent, up to the channel limit", S(7, 0, 2, 7, 1, 7, 0, 0), 12, 5, S(12, 0, 2, 7, 1, 7, 0, 0));
+    refuses("12, sent", S(7, 0, 2, 7, 1, 7, 0, 0), 12, 6, 12);
+    takes("good, up to the channel limit", S(7, 0, 2, 7, 3, 7, 0, 0), 12, 5, S(12, 0, 2, 7, 3, 7, 0, 0));
+    refuses("12, good", S(7, 0, 2, 7, 3, 7, 0, 0), 12, 6, 12);
+    refuses("12 before 11", S(0, 0, 2, 0, 2, 0, 0, 0), 12, 65535, 12);
+    takes("a tick, sums above 32 bits", S(0, 0, 1, 4294967295, 2, 4294967295, 0, 0), 12, 65535,
+          S(65535, 0, 1, 4294967295, 2, 4294967295, 0, 0));
+    takes("the clock's last tick", S(4294967294, 0, 0, 1, 2, 3, 4, 255), 12, 1, S(4294967295, 0, 0, 1, 2, 3, 4, 255));
+    refuses("13", S(4294967295, 0, 0, 1, 2, 3, 4, 255), 12, 1, 13);
+    refuses("13 by 1", S(4294901761, 1, 23, 0, 0, 0, 0, 0), 12, 65535, 13);
+    takes("up to the clock's end", S(4294901760, 1, 23, 0, 0, 0, 0, 0), 12, 65535, S(4294967295, 1, 23, 0, 0, 0, 0, 0));
+    refuses("13 before 12 and 11", late, 12, 1, 13);
+}
+
+int main(void)
+{
+    judging();
+    admitting();
+    tabling();
+    lining();
+    joining();
+    writing();
+    advancing_runs();
+    advancing_steps();
+    printf("%u passed, %u failed\n", passed, failed);
+    return failed == 0 ? 0 : 1;
+}
