@@ -1,4 +1,4 @@
--- Document 01, "Step files, parts and writing": the line for a file's bytes, and the writer with its wish as a number.
+-- Document 01, "Step files, parts and writing": the writer with its wish as a number.
 -- Assumes nothing.
 use mathlib.Core.Bool.{cond}
 use mathlib.Core.List.{List}
@@ -10,13 +10,6 @@ use Rattle.stepfile.specs.declared.write.Wish.{Wish}
 use Rattle.stepfile.specs.declared.write.Wish.the-variants.{Given, NoTable}
 use Rattle.stepfile.specs.declared.write.Written.{Written}
 use Rattle.stepfile.specs.Writing.{writtenOf, bufferAfter}
-use Rattle.line.specs.Lines.{lineOf}
-use Rattle.verdict.specs.Verdicts.{verdictOf}
-use Rattle.verdict.specs.Said.{said}
-
--- the line of the verdict on a file
-abbrev pub lineFor : List ℕ → List ℕ
-lineFor file = lineOf (said (verdictOf file))
 
 -- the table to write; 0 is the wish for none
 abbrev pub wishOf : ℕ → Table → Wish

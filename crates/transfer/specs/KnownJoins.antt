@@ -1,5 +1,5 @@
--- Document 01, "Numbers for what is refused": joins that can be followed by hand, with three bytes held in a buffer of five: each number, the order of the numbers, and each way
--- in which a part is accepted.
+-- Document 01, "Numbers for what is refused": joins that can be followed by hand, with three bytes held in a buffer of five: each
+-- number, the order of the numbers, and each way in which a part is accepted.
 -- Assumes nothing.
 use mathlib.Core.Path.{_≡_, refl}
 use mathlib.Core.List.{List, [], _∷_}

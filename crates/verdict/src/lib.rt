@@ -5,10 +5,9 @@ ghost use lib.ListN.{length};
 ghost use Rattle.shift.specs.States.{start};
 ghost use Rattle.shift.specs.Runs.{run};
 ghost use Rattle.stepfile.specs.Records.{recordAt, recordsIn};
-ghost use Rattle.line.specs.Lines.{lineOf};
 ghost use Rattle.line.specs.Laying.{laid, after};
 ghost use Rattle.verdict.specs.Verdicts.{ofRun, verdictOf};
-ghost use Rattle.verdict.specs.Said.{wordFor, said};
+ghost use Rattle.verdict.specs.Said.{wordFor, said, lineFor};
 use limits::Table;
 use line::Laid;
 use line::Line;
@@ -48,8 +47,8 @@ pub fn judge(file: &[u8]) -> Verdict
 
 // Lays the line of a file's verdict at the start of `out`, or answers 15 and changes no byte.
 pub fn line(file: &[u8], out: &mut [u8]) -> Laid
-    ensures { λ r. ⌜ r ≡ laid (lineOf (said (verdictOf (now (file .entry))))) (now (out .entry)) ⌝ }
-    ensures { λ _. ⌜ now (out .exit) ≡ after (lineOf (said (verdictOf (now (file .entry))))) (now (out .entry)) ⌝ }
+    ensures { λ r. ⌜ r ≡ laid (lineFor (now (file .entry))) (now (out .entry)) ⌝ }
+    ensures { λ _. ⌜ now (out .exit) ≡ after (lineFor (now (file .entry))) (now (out .entry)) ⌝ }
 {
     line::lay(judge(file).said(), out)
 }

@@ -7,10 +7,8 @@ use lib.ListN.{take, replicate}
 use lib.Seq.{length-take-le}
 use borrow.Author.Needs.{needs}
 use Rattle.line.specs.declared.Laid.{Laid}
-use Rattle.line.specs.Lines.{lineOf}
 use Rattle.line.proofs.LineLaws.{within}
-use Rattle.verdict.specs.Verdicts.{verdictOf}
-use Rattle.verdict.specs.Said.{said}
+use Rattle.verdict.specs.Said.{lineFor}
 use Rattle.judge.proofs.main.Statement.{statement}
 use Rattle.judge.proofs.main.Tie as tie
 
@@ -23,7 +21,7 @@ array-share-prefix-text : tie.Need-array-share-prefix-text
 array-share-prefix-text c =
     let line = c .before .line in
     let input = c .before .before .before .before .before .before .read-all in
-    let text = lineOf (said (verdictOf (take (input .result .length) (input .last .1 .0)))) in
+    let text = lineFor (take (input .result .length) (input .last .1 .0)) in
     let fits : line .result .length ≤ 128 = subst (λ (l : Laid). l .length ≤ 128) (sym (line .ensures .0)) (within text (replicate 128 0)) in
     omega (arith, line .kept .1 .0)
 
