@@ -79,11 +79,10 @@ pub first-right : (xs ys : List Check) → Holds xs → first (xs ++ ys) ≡ fir
 first-right [] ys h = refl
 first-right (c ∷ cs) ys h = holding (c .ok) (first (cs ++ ys)) (c .number) (first ys) (h .0) (first-right cs ys (h .1))
 
--- the same of two answers that were found, of which the first that is not 0 is taken
-pub joined :
-    {k m r : ℕ} (xs ys : List Check) → T (absent 0 xs) → k ≡ first xs → m ≡ first ys → r ≡ cond (eqb k 0) m k
-    → r ≡ first (xs ++ ys)
-joined {k} {m} {r} xs ys n e f g =
-    case (eqb k 0)
-    (λ z. g ∙ rw z (f ∙ sym (first-right xs ys (first→holds 0 xs n (sym e ∙ eqb-true k 0 z) .0))))
-    (λ z. g ∙ rw z (e ∙ sym (first-left xs ys (λ q. eqb-false k 0 z (e ∙ q)))))
+-- the same of an answer that was found: of the first part where it is a number, of the second where the first part answers 0
+pub found-left : {k : ℕ} (xs ys : List Check) → k ≡ first xs → ¬ (k ≡ 0) → k ≡ first (xs ++ ys)
+found-left xs ys e h = e ∙ sym (first-left xs ys (λ q. h (e ∙ q)))
+
+pub found-right :
+    {k m : ℕ} (xs ys : List Check) → T (absent 0 xs) → k ≡ first xs → k ≡ 0 → m ≡ first ys → m ≡ first (xs ++ ys)
+found-right xs ys n e z f = f ∙ sym (first-right xs ys (first→holds 0 xs n (sym e ∙ z) .0))

@@ -2,7 +2,8 @@
 -- Assumes nothing.
 use mathlib.Core.Path.{sym, _∙_}
 use Rattle.checks.specs.Determined.{Determined}
-use Rattle.phases.proofs.row_of.Reads as row-of-reads
+use Rattle.phases.proofs.next_of.Reads as next-of-reads
+use Rattle.phases.proofs.clutch_of.Reads as clutch-of-reads
 use Rattle.phases.proofs.order_of.Reads as order-of-reads
 use Rattle.phases.proofs.device_limit.Reads as device-limit-reads
 use Rattle.phases.proofs.phase_limit.Reads as phase-limit-reads
@@ -10,8 +11,11 @@ use Rattle.phases.proofs.latest_take.Reads as latest-take-reads
 use Rattle.phases.proofs.earliest_ask.Reads as earliest-ask-reads
 use Rattle.phases.proofs.is_unfinished.Reads as is-unfinished-reads
 
-pub row-of : Determined row-of-reads.Post
-row-of κs a x y at at′ p q = p ∙ sym q
+pub next-of : Determined next-of-reads.Post
+next-of κs a x y at at′ p q = p ∙ sym q
+
+pub clutch-of : Determined clutch-of-reads.Post
+clutch-of κs a x y at at′ p q = p ∙ sym q
 
 pub order-of : Determined order-of-reads.Post
 order-of κs a x y at at′ p q = p ∙ sym q

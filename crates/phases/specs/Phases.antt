@@ -7,7 +7,6 @@ use lib.Dec.{leb}
 use lib.ListN.{getD}
 use Rattle.limits.specs.declared.Table.{Table}
 use Rattle.limits.specs.Limits.{entry}
-use Rattle.phases.specs.declared.Row.{Row}
 
 -- orders, numbered as the entries of their device limits; 0 is no order
 abbrev pub sync : ℕ
@@ -39,8 +38,13 @@ abbrev pub error : ℕ
 error = 23
 
 -- a row of the phase table: the order, the next phase when taken, and the phase after asking for the clutch; 0 where there is none
+pub record Row : Type 0 where
+  pub order : ℕ
+  pub next : ℕ
+  pub clutch : ℕ
+
 abbrev pub row : ℕ → ℕ → ℕ → Row
-row o n c = (o, n, c)
+row o n c = record { order = o; next = n; clutch = c }
 
 abbrev pub rows : List Row
 rows =
@@ -74,13 +78,13 @@ abbrev pub rowOf : ℕ → Row
 rowOf p = getD rows p (row 0 0 0)
 
 abbrev pub orderOf : ℕ → ℕ
-orderOf p = rowOf p .0
+orderOf p = rowOf p .order
 
 abbrev pub nextOf : ℕ → ℕ
-nextOf p = rowOf p .1
+nextOf p = rowOf p .next
 
 abbrev pub clutchOf : ℕ → ℕ
-clutchOf p = rowOf p .2
+clutchOf p = rowOf p .clutch
 
 -- ---- limits by order: the entry's number stands at the order's; 18 is no entry, and counts as 0
 abbrev pub limitBy : List ℕ → Table → ℕ → ℕ

@@ -1,10 +1,7 @@
-// The phase table of document 01, looked up, and the limits that a phase has by its order.
+// The phase table of document 01, and the limits that a phase has by its order.
 ghost use mathlib.Core.Path.{_≡_};
-ghost use Rattle.phases.specs.Phases.{rowOf, orderOf, deviceLimit, phaseLimit, latestTake, earliestAsk, unfinished};
+ghost use Rattle.phases.specs.Phases.{orderOf, nextOf, clutchOf, deviceLimit, phaseLimit, latestTake, earliestAsk, unfinished};
 use limits::Table;
-
-// A row: the order, the next phase when taken, and the phase after asking for the clutch; 0 where there is none.
-pub struct Row(pub u8, pub u8, pub u8);
 
 // The orders, numbered as the entries of their device limits.
 const SYNC: u8 = 1;
@@ -19,49 +16,115 @@ const SET: u8 = 5;
 
 const RELEASE: u8 = 6;
 
-const ROWS: [Row; 24] = [
-    Row(0, 0, 0), // 0 at rest
-    Row(SYNC, 3, 2), // 1 (from neutral)
-    Row(OPEN, 4, 0), // 2
-    Row(SET, 22, 0), // 3
-    Row(SET, 5, 0), // 4
-    Row(CLOSE, 22, 0), // 5
-    Row(ZERO_TORQUE, 8, 7), // 6 (gear to gear)
-    Row(OPEN, 9, 0), // 7
-    Row(RELEASE, 10, 0), // 8
-    Row(RELEASE, 14, 0), // 9
-    Row(SYNC, 12, 11), // 10
-    Row(OPEN, 13, 0), // 11
-    Row(SET, 22, 0), // 12
-    Row(SET, 15, 0), // 13
-    Row(SET, 16, 0), // 14
-    Row(CLOSE, 22, 0), // 15
-    Row(CLOSE, 22, 0), // 16
-    Row(ZERO_TORQUE, 19, 18), // 17 (to neutral)
-    Row(OPEN, 20, 0), // 18
-    Row(RELEASE, 22, 0), // 19
-    Row(RELEASE, 21, 0), // 20
-    Row(CLOSE, 22, 0), // 21
-    Row(0, 0, 0), // 22 done
-    Row(0, 0, 0), // 23 error
+// The next phase when taken, by phase; 0 where there is none.
+const NEXT: [u8; 24] = [
+    0,
+    3,
+    4,
+    22,
+    5,
+    22,
+    8,
+    9,
+    10,
+    14,
+    12,
+    13,
+    22,
+    15,
+    16,
+    22,
+    22,
+    19,
+    20,
+    22,
+    21,
+    22,
+    0,
+    0,
 ];
 
-// The row of a phase; of a phase above 23 that of a phase without an order.
-pub fn row_of(phase: u8) -> Row
-    ensures { λ r. ⌜ r ≡ rowOf phase ⌝ }
+// The phase after asking for the clutch, by phase; 0 where there is none.
+const CLUTCH: [u8; 24] = [
+    0,
+    2,
+    0,
+    0,
+    0,
+    0,
+    7,
+    0,
+    0,
+    0,
+    11,
+    0,
+    0,
+    0,
+    0,
+    0,
+    0,
+    18,
+    0,
+    0,
+    0,
+    0,
+    0,
+    0,
+];
+
+// The next phase when a phase's order is taken.
+pub fn next_of(phase: u8) -> u8
+    ensures { λ r. ⌜ r ≡ nextOf phase ⌝ }
 {
     let i = phase as usize;
     if i < 24 {
-        return ROWS[i];
+        return NEXT[i];
     }
-    Row(0, 0, 0)
+    0
 }
 
-// The order of a phase.
+// The phase after asking for the clutch.
+pub fn clutch_of(phase: u8) -> u8
+    ensures { λ r. ⌜ r ≡ clutchOf phase ⌝ }
+{
+    let i = phase as usize;
+    if i < 24 {
+        return CLUTCH[i];
+    }
+    0
+}
+
+// The order of a phase, 0 where it has none.
 pub fn order_of(phase: u8) -> u8
     ensures { λ r. ⌜ r ≡ orderOf phase ⌝ }
 {
-    row_of(phase).0
+    match phase {
+        0 => 0,
+        1 => SYNC,
+        2 => OPEN,
+        3 => SET,
+        4 => SET,
+        5 => CLOSE,
+        6 => ZERO_TORQUE,
+        7 => OPEN,
+        8 => RELEASE,
+        9 => RELEASE,
+        10 => SYNC,
+        11 => OPEN,
+        12 => SET,
+        13 => SET,
+        14 => SET,
+        15 => CLOSE,
+        16 => CLOSE,
+        17 => ZERO_TORQUE,
+        18 => OPEN,
+        19 => RELEASE,
+        20 => RELEASE,
+        21 => CLOSE,
+        22 => 0,
+        23 => 0,
+        _ => 0,
+    }
 }
 
 // The device limit of an order.

@@ -2,12 +2,13 @@
 -- Assumes nothing.
 use mathlib.Core.Path.{_≡_, refl}
 use mathlib.Core.Logic.{⊎-elim}
-use mathlib.Core.List.{[], _∷_}
+use mathlib.Core.List.{List, [], _∷_}
 use Prim.Native.Nat.{ℕ, zero, suc, _≤_}
 use native.Mathlib.Omega.{arith}
 use types.Run.{OneOf}
 use denote.Enum.Declared.{tagOf}
 use Rattle.checks.proofs.Tests.{tests}
+use Rattle.checks.specs.Checks.{Check, first}
 use Rattle.checks.proofs.Checks.{first→holds}
 use Rattle.limits.specs.declared.Table.{Table}
 use Rattle.shift.specs.declared.State.{State}
@@ -16,8 +17,8 @@ use Rattle.shift.specs.declared.Step.the-variants.{FromNeutral, GearToGe
 use Rattle.shift.specs.declared.Reading.{Reading}
 use Rattle.shift.specs.declared.Reading.the-variants.{Means, WrongCode, WrongAmount}
 use Rattle.shift.specs.declared.Answer.{Answer}
-use Rattle.shift.specs.Steps.{effect}
-use Rattle.shift.specs.Answers.{refusal, checks, guard, refused, answer, judged, admitting}
+use Rattle.shift.specs.Steps.{allowed, effect}
+use Rattle.shift.specs.Answers.{refusal, checksOf, led, refused, answer, admitting}
 use Rattle.shift.proofs.Reading.{the-type}
 
 pub refuses : (k : ℕ) (next s : State) → ¬ (k ≡ 0) → refused k s ≡ answer k next s
@@ -32,16 +33,16 @@ pub breaks : (k : ℕ) (a : Answer) (s : State) → ¬ (k ≡ 0) → record { nu
 breaks zero a s h = absurd (h refl)
 breaks (suc k) a s h = refl
 
--- a reading that is not the first of its kinds is refused by its own number
+-- a reading that is not the first of its kinds is refused by its own number, whatever its step would be asked
 pub no-step :
-    (t : Table) (s : State) (r : Reading) → OneOf (1 ∷ 2 ∷ []) (tagOf the-type r)
-    → refused (refusal r) s ≡ judged t s r
-no-step t s (Means x) o = absurd (⊎-elim (λ e. omega arith) (λ e. omega arith) o)
-no-step t s WrongCode o = refl
-no-step t s WrongAmount o = refl
+    (own : Step → List Check) (s : State) (r : Reading) → OneOf (1 ∷ 2 ∷ []) (tagOf the-type r)
+    → refused (refusal r) s ≡ answer (first (checksOf own r)) (led s r) s
+no-step own s (Means x) o = absurd (⊎-elim (λ e. omega arith) (λ e. omega arith) o)
+no-step own s WrongCode o = refl
+no-step own s WrongAmount o = refl
 
 pub in-clock :
-    (t : Table) (s : State) (x : Step) → guard t s (Means x) ≡ 0 → s .clock ≤ 4294967295
+    (t : Table) (s : State) (x : Step) → first (allowed t s x) ≡ 0 → s .clock ≤ 4294967295
     → effect s x .clock ≤ 4294967295
 in-clock t s FromNeutral e h = h
 in-clock t s GearToGear e h = h
@@ -54,4 +55,4 @@ in-clock t s Take e h = h
 in-clock t s AskClutch e h = h
 in-clock t s RaiseError e h = h
 in-clock t s Finish e h = h
-in-clock t s (Tick n) e h = let a = first→holds 0 (checks t s (Means (Tick n))) tt e in omega (arith, tests)
+in-clock t s (Tick n) e h = let a = first→holds 0 (allowed t s (Tick n)) tt e in omega (arith, tests)

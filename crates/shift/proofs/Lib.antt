@@ -1,3 +1,5 @@
 pub mod StepLaws
+pub mod ReadingLaws
 pub mod AnswerLaws
+pub mod ListedLaws
 pub mod Determined

@@ -1,7 +1,7 @@
 -- Laws on the steps: where a limit applies, and where 0 is held against it.
 -- Assumes nothing.
-use mathlib.Core.Path.{_≡_, sym}
-use mathlib.Core.Bool.{false, cond, _&&_}
+use mathlib.Core.Path.{_≡_, refl, sym}
+use mathlib.Core.Bool.{Bool, true, false, cond, _&&_}
 use mathlib.Core.List.{[], _∷_}
 use Prim.Native.Nat.{ℕ, _≤_, _<_, zero-le}
 use native.Mathlib.Omega.{arith}
@@ -14,6 +14,12 @@ use Rattle.phases.proofs.PhaseLaws.{unfinished-in}
 use Rattle.shift.specs.declared.State.{State}
 use Rattle.phases.specs.Phases.{orderOf, unfinished, engine}
 use Rattle.shift.specs.Steps.{limited}
+
+-- three tests of one number, and one that asks for all
+pub all-three : (a b c : Bool) (k : ℕ) → cond ((a && b) && c) 0 k ≡ cond a (cond b (cond c 0 k) k) k
+all-three true true c k = refl
+all-three true false c k = refl
+all-three false b c k = refl
 
 -- 0 passes no limit
 pub free : (limit : ℕ) → false ≡ ltb limit 0

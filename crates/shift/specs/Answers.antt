@@ -18,36 +18,36 @@ use Rattle.phases.specs.Phases.{error}
 use Rattle.shift.specs.States.{waiting}
 use Rattle.shift.specs.Steps.{allowed, effect}
 
--- ---- what a code and an amount mean
+-- ---- what a code, a middle byte and an amount mean
 
--- codes 1 to 11: the amount is 0
-abbrev pub plain : Step → ℕ → Reading
-plain x n = cond (eqb n 0) (Means x) WrongAmount
+-- codes 1 to 11: the middle byte and the amount are 0
+abbrev pub plain : Step → ℕ → ℕ → Reading
+plain x middle n = cond (eqb middle 0 && eqb n 0) (Means x) WrongAmount
 
--- code 12: the amount is 1 to 65,535
-abbrev pub ticking : ℕ → Reading
-ticking n = cond (leb 1 n && leb n 65535) (Means (Tick n)) WrongAmount
+-- code 12: the middle byte is 0, the amount is 1 to 65,535
+abbrev pub ticking : ℕ → ℕ → Reading
+ticking middle n = cond (eqb middle 0 && (leb 1 n && leb n 65535)) (Means (Tick n)) WrongAmount
 
 -- by code, from 0
-abbrev pub readings : ℕ → List Reading
-readings n =
+abbrev pub readings : ℕ → ℕ → List Reading
+readings middle n =
     WrongCode
-    ∷ plain FromNeutral n
-    ∷ plain GearToGear n
-    ∷ plain ToNeutral n
-    ∷ plain Deliver n
-    ∷ plain DeviceGood n
-    ∷ plain DeviceFailed n
-    ∷ plain EngineWaits n
-    ∷ plain Take n
-    ∷ plain AskClutch n
-    ∷ plain RaiseError n
-    ∷ plain Finish n
-    ∷ ticking n
+    ∷ plain FromNeutral middle n
+    ∷ plain GearToGear middle n
+    ∷ plain ToNeutral middle n
+    ∷ plain Deliver middle n
+    ∷ plain DeviceGood middle n
+    ∷ plain DeviceFailed middle n
+    ∷ plain EngineWaits middle n
+    ∷ plain Take middle n
+    ∷ plain AskClutch middle n
+    ∷ plain RaiseError middle n
+    ∷ plain Finish middle n
+    ∷ ticking middle n
     ∷ []
 
-abbrev pub reading : ℕ → ℕ → Reading
-reading code n = getD (readings n) code WrongCode
+abbrev pub reading : ℕ → ℕ → ℕ → Reading
+reading code middle n = getD (readings middle n) code WrongCode
 
 -- the number of a reading that is no step
 abbrev pub refusal : Reading → ℕ
@@ -61,10 +61,14 @@ refusal WrongAmount = 6
 abbrev pub listed : State → List Check
 listed s = (leb (s .phase) error ! 7) ∷ (leb (s .stage) waiting ! 7) ∷ (leb (s .«gear_box») 1 ! 7) ∷ []
 
+-- of a reading: those of its step, or the one that refuses it
+abbrev pub checksOf : (Step → List Check) → Reading → List Check
+checksOf own (Means x) = own x
+checksOf own WrongCode = (false ! refusal WrongCode) ∷ []
+checksOf own WrongAmount = (false ! refusal WrongAmount) ∷ []
+
 abbrev pub checks : Table → State → Reading → List Check
-checks t s (Means x) = listed s ++ allowed t s x
-checks t s WrongCode = (false ! refusal WrongCode) ∷ []
-checks t s WrongAmount = (false ! refusal WrongAmount) ∷ []
+checks t s = checksOf (λ x. listed s ++ allowed t s x)
 
 -- 0 where the step is accepted, else the number that refuses it
 abbrev pub guard : Table → State → Reading → ℕ
@@ -95,6 +99,6 @@ abbrev pub admitting : ℕ → Answer → State → Answer
 admitting zero a s = a
 admitting (suc k) a s = record { number = 4; rule = suc k; state = s }
 
--- under any table
+-- under any table; a step that is given by code and amount has no middle byte
 abbrev pub stepOn : Table → State → ℕ → ℕ → Answer
-stepOn t s code n = admitting (brokenRule t) (judged t s (reading code n)) s
+stepOn t s code n = admitting (brokenRule t) (judged t s (reading code 0 n)) s

@@ -15,10 +15,10 @@ use Rattle.shift.specs.Runs.{run}
 
 -- a step by its code, and tN
 abbrev pub step : ℕ → Reading
-step code = reading code 0
+step code = reading code 0 0
 
 abbrev pub t : ℕ → Reading
-t n = reading 12 n
+t n = reading 12 0 n
 
 abbrev pub k1 : List Reading
 k1 =

@@ -6,8 +6,9 @@ ghost use Rattle.shift.specs.States.{boxIn, entered};
 ghost use Rattle.shift.specs.Steps.{requested, staged, ticked, effect};
 use crate::State;
 use crate::Step;
+use phases::clutch_of;
 use phases::is_unfinished;
-use phases::row_of;
+use phases::next_of;
 
 // x where b holds, else y.
 fn pick8(b: bool, x: u8, y: u8) -> u8
@@ -116,8 +117,8 @@ impl State {
             Step::DeviceGood => self.staged(3),
             Step::DeviceFailed => self.staged(4),
             Step::EngineWaits => self.staged(5),
-            Step::Take => self.enter(row_of(self.phase).1),
-            Step::AskClutch => self.enter(row_of(self.phase).2),
+            Step::Take => self.enter(next_of(self.phase)),
+            Step::AskClutch => self.enter(clutch_of(self.phase)),
             Step::RaiseError => self.enter(23),
             Step::Finish => self.enter(0),
             Step::Tick(amount) => self.tick(amount),

@@ -1,18 +1,20 @@
 // The number that refuses a step, or 0: for each step its checks, in the order of their numbers.
 ghost use mathlib.Core.Path.{_≡_};
 ghost use mathlib.Core.Bool.{cond};
-ghost use lib.Dec.{ltb, eqb};
+ghost use mathlib.Core.List.{_++_};
+ghost use lib.Dec.{ltb};
 ghost use Rattle.checks.specs.Checks.{first};
 ghost use Rattle.phases.specs.Phases.{unfinished};
-ghost use Rattle.shift.specs.declared.Reading.the-variants.{Means};
-ghost use Rattle.shift.specs.Steps.{restsIn, shiftsIn, inDevice, inEngine, inTakeTime, inAskTime, inTickTime, isDone, stageBound, phaseBound, limited};
-ghost use Rattle.shift.specs.Answers.{listed, guard};
+ghost use Rattle.shift.specs.States.{working, good, waiting};
+ghost use Rattle.shift.specs.Steps.{restsIn, shiftsIn, inDevice, inEngine, inTakeTime, inAskTime, inTickTime, isDone, stageBound, phaseBound, limited, allowed};
+ghost use Rattle.shift.specs.Answers.{listed};
 use crate::State;
 use crate::Step;
 use limits::Table;
 use phases::ZERO_TORQUE;
 use phases::device_limit;
 use phases::earliest_ask;
+use phases::is_unfinished;
 use phases::latest_take;
 use phases::order_of;
 use phases::phase_limit;
@@ -21,48 +23,29 @@ use times::is_late;
 use times::passes;
 use times::ticked;
 
-// The first of two numbers that is not 0.
-fn first(a: u8, b: u8) -> u8
-    ensures { λ r. ⌜ r ≡ cond (eqb a 0) b a ⌝ }
-{
-    if a == 0 { b } else { a }
-}
-
 impl State {
-    // 0 where the step is allowed, else the number that refuses it.
+    // 0 where a listed state allows the step, else the number that refuses it.
     pub(crate) fn guard(self, table: Table, x: Step) -> u8
-        ensures { λ r. ⌜ r ≡ guard table self (Means x) ⌝ }
+        ensures { λ r. ⌜ r ≡ first (allowed table self x) ⌝ }
     {
-        let unlisted = self.unlisted();
         match x {
-            Step::FromNeutral => first(unlisted, self.rests_in(0)),
-            Step::GearToGear => first(unlisted, self.rests_in(1)),
-            Step::ToNeutral => first(unlisted, self.rests_in(1)),
-            Step::Deliver => first(unlisted, self.shifts_in(1)),
-            Step::DeviceGood => first(unlisted, self.shifts_in(2)),
-            Step::DeviceFailed => first(unlisted, first(self.shifts_in(2), self.in_device())),
-            Step::EngineWaits => first(unlisted, first(self.shifts_in(2), self.in_engine())),
-            Step::Take => first(unlisted, first(self.shifts_in(3), self.in_take_time(table))),
-            Step::AskClutch => first(
-                unlisted,
-                first(
-                    self.shifts_in(5),
-                    first(self.in_engine(), self.in_ask_time(table)),
-                ),
-            ),
-            Step::RaiseError => first(unlisted, self.shifts_in(4)),
-            Step::Finish => first(unlisted, self.is_done()),
-            Step::Tick(amount) => {
-                first(
-                    unlisted,
-                    self.in_tick_time(table, ticked(self.clock, amount)),
-                )
-            }
+            Step::FromNeutral => self.rests_in(0),
+            Step::GearToGear => self.rests_in(1),
+            Step::ToNeutral => self.rests_in(1),
+            Step::Deliver => self.shifts_in(1),
+            Step::DeviceGood => self.shifts_in(2),
+            Step::DeviceFailed => self.in_device(),
+            Step::EngineWaits => self.in_engine(2),
+            Step::Take => self.in_take_time(table),
+            Step::AskClutch => self.in_ask_time(table),
+            Step::RaiseError => self.shifts_in(4),
+            Step::Finish => self.is_done(),
+            Step::Tick(amount) => self.in_tick_time(table, ticked(self.clock, amount)),
         }
     }
 
-    // No phase above 23, no unlisted stage, no box above 1.
-    fn unlisted(self) -> u8
+    // 7 for a phase above 23, an unlisted stage or a box above 1, else 0.
+    pub fn unlisted(self) -> u8
         ensures { λ r. ⌜ r ≡ first (listed self) ⌝ }
     {
         let phase = self.phase;
@@ -99,48 +82,49 @@ impl State {
     fn shifts_in(self, wanted: u8) -> u8
         ensures { λ r. ⌜ r ≡ first (shiftsIn self wanted) ⌝ }
     {
-        let phase = self.phase;
-        let stage = self.stage;
-        if phase < 1 {
-            return 7;
+        if is_unfinished(self.phase) & (self.stage == wanted) {
+            return 0;
         }
-        if 21 < phase {
-            return 7;
-        }
-        if stage != wanted {
-            return 7;
-        }
-        0
+        7
     }
 
-    // In a phase of a clutch or gear order.
+    // Working on a clutch or gear order.
     fn in_device(self) -> u8
-        ensures { λ r. ⌜ r ≡ first (inDevice self) ⌝ }
+        ensures { λ r. ⌜ r ≡ first (shiftsIn self working ++ inDevice self) ⌝ }
     {
+        let number = self.shifts_in(2);
+        if number != 0 {
+            return number;
+        }
         if order_of(self.phase) <= ZERO_TORQUE {
             return 7;
         }
         0
     }
 
-    // In a phase of an engine order.
-    fn in_engine(self) -> u8
-        ensures { λ r. ⌜ r ≡ first (inEngine self) ⌝ }
+    // In this stage of an engine order.
+    fn in_engine(self, wanted: u8) -> u8
+        ensures { λ r. ⌜ r ≡ first (shiftsIn self wanted ++ inEngine self) ⌝ }
     {
+        let number = self.shifts_in(wanted);
+        if number != 0 {
+            return number;
+        }
         if ZERO_TORQUE < order_of(self.phase) {
             return 7;
         }
         0
     }
 
-    // In an engine phase not past its EX.
+    // The order is good, and in an engine phase its EX is not past.
     fn in_take_time(self, table: Table) -> u8
-        ensures { λ r. ⌜ r ≡ first (inTakeTime table self) ⌝ }
+        ensures { λ r. ⌜ r ≡ first (shiftsIn self good ++ inTakeTime table self) ⌝ }
     {
-        let order = order_of(self.phase);
-        if order < 1 {
-            return 0;
+        let number = self.shifts_in(3);
+        if number != 0 {
+            return number;
         }
+        let order = order_of(self.phase);
         if ZERO_TORQUE < order {
             return 0;
         }
@@ -150,10 +134,14 @@ impl State {
         0
     }
 
-    // Not before the DE of its phase.
+    // The engine waits, and not before the DE of its phase.
     fn in_ask_time(self, table: Table) -> u8
-        ensures { λ r. ⌜ r ≡ first (inAskTime table self) ⌝ }
+        ensures { λ r. ⌜ r ≡ first (shiftsIn self waiting ++ (inEngine self ++ inAskTime table self)) ⌝ }
     {
+        let number = self.in_engine(5);
+        if number != 0 {
+            return number;
+        }
         let de = earliest_ask(table, order_of(self.phase));
         if is_early(self.clock, self.phase_time, de) {
             return 9;

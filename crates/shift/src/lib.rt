@@ -2,6 +2,7 @@
 ghost use mathlib.Core.Path.{_≡_};
 ghost use Rattle.shift.specs.States.{start};
 ghost use Rattle.shift.specs.Answers.{plain, ticking, reading, refusal, refused, judged, stepOn};
+ghost use Rattle.shift.specs.Listed.{judgedListed};
 use limits::Table;
 
 mod effects;
@@ -35,7 +36,7 @@ pub enum Step {
     Tick(u32),
 }
 
-// What a code and an amount mean: a step, or refusal 5, or refusal 6.
+// What a code, a middle byte and an amount mean: a step, or refusal 5, or refusal 6.
 pub enum Reading {
     Means(Step),
     WrongCode,
@@ -50,47 +51,64 @@ pub struct Answer {
 }
 
 impl Step {
-    // What a code and an amount mean, for any of them.
-    pub fn of(code: u8, amount: u32) -> Reading
-        ensures { λ r. ⌜ r ≡ reading code amount ⌝ }
+    // What a code, a middle byte and an amount mean, for any of them.
+    pub fn of(code: u8, middle: u8, amount: u32) -> Reading
+        ensures { λ r. ⌜ r ≡ reading code middle amount ⌝ }
     {
         match code {
             0 => Reading::WrongCode,
-            1 => plain(Step::FromNeutral, amount),
-            2 => plain(Step::GearToGear, amount),
-            3 => plain(Step::ToNeutral, amount),
-            4 => plain(Step::Deliver, amount),
-            5 => plain(Step::DeviceGood, amount),
-            6 => plain(Step::DeviceFailed, amount),
-            7 => plain(Step::EngineWaits, amount),
-            8 => plain(Step::Take, amount),
-            9 => plain(Step::AskClutch, amount),
-            10 => plain(Step::RaiseError, amount),
-            11 => plain(Step::Finish, amount),
-            12 => ticking(amount),
+            1 => plain(Step::FromNeutral, middle, amount),
+            2 => plain(Step::GearToGear, middle, amount),
+            3 => plain(Step::ToNeutral, middle, amount),
+            4 => plain(Step::Deliver, middle, amount),
+            5 => plain(Step::DeviceGood, middle, amount),
+            6 => plain(Step::DeviceFailed, middle, amount),
+            7 => plain(Step::EngineWaits, middle, amount),
+            8 => plain(Step::Take, middle, amount),
+            9 => plain(Step::AskClutch, middle, amount),
+            10 => plain(Step::RaiseError, middle, amount),
+            11 => plain(Step::Finish, middle, amount),
+            12 => ticking(middle, amount),
             _ => Reading::WrongCode,
         }
     }
 }
 
-// A step other than a tick: its amount is 0.
-fn plain(x: Step, amount: u32) -> Reading
-    ensures { λ r. ⌜ r ≡ plain x amount ⌝ }
+// A step other than a tick: its middle byte and its amount are 0.
+fn plain(x: Step, middle: u8, amount: u32) -> Reading
+    ensures { λ r. ⌜ r ≡ plain x middle amount ⌝ }
 {
-    if amount == 0 {
+    if (middle == 0) & (amount == 0) {
         return Reading::Means(x);
     }
     Reading::WrongAmount
 }
 
-// A tick: its amount is 1 to 65,535.
-fn ticking(amount: u32) -> Reading
-    ensures { λ r. ⌜ r ≡ ticking amount ⌝ }
+// A tick: its middle byte is 0, its amount is 1 to 65,535.
+fn ticking(middle: u8, amount: u32) -> Reading
+    ensures { λ r. ⌜ r ≡ ticking middle amount ⌝ }
 {
-    if (1 <= amount) & (amount <= 65535) {
+    if (middle == 0) & ((1 <= amount) & (amount <= 65535)) {
         return Reading::Means(Step::Tick(amount));
     }
     Reading::WrongAmount
+}
+
+// Refusal 5 or 6 of a code, a middle byte and an amount, or 0: what `Step::of` reads, for those who don't ask for the step.
+pub fn refusal_of(code: u8, middle: u8, amount: u32) -> u8
+    ensures { λ r. ⌜ r ≡ refusal (reading code middle amount) ⌝ }
+{
+    if code < 1 {
+        return 5;
+    }
+    if 12 < code {
+        return 5;
+    }
+    if code == 12 {
+        return ticking(middle, amount).refusal();
+    }
+    // Codes 1 to 11 are read alike.
+    plain(Step::Finish, middle, amount).refusal()
 }
 
 impl Reading {
@@ -135,12 +153,26 @@ impl State {
                 state: self,
             };
         }
-        self.judged(table, Step::of(code, amount))
+        self.judged(table, Step::of(code, 0, amount))
     }
 
     // The same for what was read of a record, under a table that has been tested.
-    pub fn judged(self, table: Table, reading: Reading) -> Answer
+    fn judged(self, table: Table, reading: Reading) -> Answer
         ensures { λ r. ⌜ r ≡ judged table self reading ⌝ }
+    {
+        let number = self.unlisted();
+        if number == 0 {
+            return self.judged_listed(table, reading);
+        }
+        let Reading::Means(_) = reading else {
+            return self.refused(reading.refusal());
+        };
+        self.refused(number)
+    }
+
+    // The same for a state that has been tested too.
+    pub fn judged_listed(self, table: Table, reading: Reading) -> Answer
+        ensures { λ r. ⌜ r ≡ judgedListed table self reading ⌝ }
     {
         let Reading::Means(x) = reading else {
             return self.refused(reading.refusal());

@@ -6,6 +6,7 @@ use denote.Ref.{now}
 use Rattle.checks.specs.Determined.{Determined, DeterminedLent, DeterminedPart}
 use Rattle.stepfile.proofs.from_offset.Reads as from-offset-reads
 use Rattle.stepfile.proofs.record.Reads as record-reads
+use Rattle.stepfile.proofs.record_refusal.Reads as record-refusal-reads
 use Rattle.stepfile.proofs.records.Reads as records-reads
 use Rattle.stepfile.proofs.refused.Reads as refused-reads
 use Rattle.stepfile.proofs.table.Reads as table-reads
@@ -19,6 +20,9 @@ table κs a x y at at′ p q = p ∙ sym q
 
 pub record-of : Determined record-reads.Post
 record-of κs a x y at at′ p q = p ∙ sym q
+
+pub record-refusal : Determined record-refusal-reads.Post
+record-refusal κs a x y at at′ p q = p ∙ sym q
 
 pub write : DeterminedLent (λ κs at. now (at .1 .1 .1 .0)) write-reads.Post
 write κs a x y at at′ p q = (p .0 ∙ sym (q .0), p .1 ∙ sym (q .1))

@@ -5,16 +5,16 @@ use mathlib.Core.Bool.{Bool, true, false, cond, _&&_}
 use mathlib.Core.List.{List, [], _∷_, _++_, map}
 use Prim.Native.Nat.{ℕ, zero, suc, _+_, _*_, _/_, _%_, _<_}
 use native.Mathlib.Omega.{arith}
-use lib.Dec.{leb, eqb}
+use lib.Dec.{leb, eqb, eqb→eq}
 use lib.ListN.{length, getD}
-use borrow.Author.Tests.{eqb-true}
+use Rattle.checks.proofs.Tests.{passes, left, right}
 use Rattle.shift.specs.declared.Reading.{Reading}
 use Rattle.shift.specs.declared.Reading.the-variants.{Means, WrongCode, WrongAmount}
 use Rattle.shift.specs.declared.Step.{Step}
 use Rattle.shift.specs.declared.Step.the-variants.{FromNeutral, GearToGear, ToNeutral, Deliver, DeviceGood, DeviceFailed, EngineWaits, Take, AskClutch, RaiseError, Finish, Tick}
 use Rattle.shift.specs.Answers.{reading, plain, ticking, refusal}
 use Rattle.stepfile.specs.Bytes.{bytesOf}
-use Rattle.stepfile.specs.Records.{spoiled, recordOf, recordsIn}
+use Rattle.stepfile.specs.Records.{recordOf, recordsIn}
 use Rattle.stepfile.specs.Writing.{wrongOr, firstWrong, recordsOf}
 use Rattle.stepfile.specs.RoundTrip.{Bytes, AllRead, stepCode, stepAmount, codeOf, amountOf}
 
@@ -28,25 +28,28 @@ abbrev Coded : ℕ → List Step → Type 0
 Coded i [] = Unit {0}
 Coded i (s ∷ ss) = (stepCode s ≡ i) × (stepAmount s ≡ 0) × Coded (suc i) ss
 
-module _ (n : ℕ) (x : Step) where
-  no-step : {c : ℕ} → WrongCode ≡ Means x → (stepCode x ≡ c) × (stepAmount x ≡ n)
+module _ (b n : ℕ) (x : Step) where
+  no-step : {c : ℕ} → WrongCode ≡ Means x → (b ≡ 0) × (stepCode x ≡ c) × (stepAmount x ≡ n)
   no-step e = let z : _≡_ {A = ℕ} 0 1 = cc in absurd (omega arith)
 
-  own-plain : (s : Step) → stepAmount s ≡ 0 → plain s n ≡ Means x → (stepCode x ≡ stepCode s) × (stepAmount x ≡ n)
+  own-plain : (s : Step) → stepAmount s ≡ 0 → plain s b n ≡ Means x → (b ≡ 0) × (stepCode x ≡ stepCode s) × (stepAmount x ≡ n)
   own-plain s a e =
-      let c = chosen (eqb n 0) s x e in
-      (ap stepCode (sym (c .1)), ap stepAmount (sym (c .1)) ∙ a ∙ sym (eqb-true n 0 (c .0)))
+      let c = chosen (eqb b 0 && eqb n 0) s x e in
+      let t = passes (eqb b 0 && eqb n 0) (c .0) in
+      let z = eqb→eq n 0 (right (eqb b 0) (eqb n 0) t) in
+      (eqb→eq b 0 (left (eqb b 0) (eqb n 0) t), ap stepCode (sym (c .1)), ap stepAmount (sym (c .1)) ∙ a ∙ sym z)
 
-  own-tick : ticking n ≡ Means x → (stepCode x ≡ 12) × (stepAmount x ≡ n)
+  own-tick : ticking b n ≡ Means x → (b ≡ 0) × (stepCode x ≡ 12) × (stepAmount x ≡ n)
   own-tick e =
-      let c = chosen (leb 1 n && leb n 65535) (Tick n) x e in
-      (ap stepCode (sym (c .1)), ap stepAmount (sym (c .1)))
+      let c = chosen (eqb b 0 && (leb 1 n && leb n 65535)) (Tick n) x e in
+      let t = passes (eqb b 0 && (leb 1 n && leb n 65535)) (c .0) in
+      (eqb→eq b 0 (left (eqb b 0) (leb 1 n && leb n 65535) t), ap stepCode (sym (c .1)), ap stepAmount (sym (c .1)))
 
   -- by place in the list of readings from code i on
   own-from :
       (ss : List Step) (i c : ℕ) → Coded i ss → i + length ss ≡ 12
-      → getD (map (λ s. plain s n) ss ++ (ticking n ∷ [])) c WrongCode ≡ Means x
-      → (stepCode x ≡ i + c) × (stepAmount x ≡ n)
+      → getD (map (λ s. plain s b n) ss ++ (ticking b n ∷ [])) c WrongCode ≡ Means x
+      → (b ≡ 0) × (stepCode x ≡ i + c) × (stepAmount x ≡ n)
   own-from [] i zero k l e = let o = own-tick e in omega arith
   own-from [] i (suc c) k l e = no-step e
   own-from (s ∷ ss) i zero k l e = let o = own-plain s (k .1) e in omega arith
@@ -67,41 +70,33 @@ module _ (n : ℕ) (x : Step) where
       ∷ Finish
       ∷ []
 
-  own : (c : ℕ) → reading c n ≡ Means x → (stepCode x ≡ c) × (stepAmount x ≡ n)
+  own : (c : ℕ) → reading c b n ≡ Means x → (b ≡ 0) × (stepCode x ≡ c) × (stepAmount x ≡ n)
   own zero e = no-step e
   own (suc c) e = let o = own-from plains 1 c (omega arith) refl e in omega arith
 
 -- ---- a record that means a step
-unspoiled : (b : Bool) (r : Reading) (x : Step) → cond b r (spoiled r) ≡ Means x → (b ≡ true) × (r ≡ Means x)
-unspoiled true r x e = (refl, e)
-unspoiled false (Means y) x e = let z : _≡_ {A = ℕ} 0 1 = cc in absurd (omega arith)
-unspoiled false WrongCode x e = let z : _≡_ {A = ℕ} 0 1 = cc in absurd (omega arith)
-unspoiled false WrongAmount x e = let z : _≡_ {A = ℕ} 0 1 = cc in absurd (omega arith)
-
 module _ (a b c d : ℕ) (x : Step) (e : recordOf a b c d ≡ Means x) where
   abbrev amount : ℕ
   amount = c + 256 * d
 
-  meant : (eqb b 0 ≡ true) × (reading a amount ≡ Means x)
-  meant = unspoiled (eqb b 0) (reading a amount) x e
-
-  its-own : (stepCode x ≡ a) × (stepAmount x ≡ amount)
-  its-own = own amount x a (meant .1)
+  its-own : (b ≡ 0) × (stepCode x ≡ a) × (stepAmount x ≡ amount)
+  its-own = own b amount x a e
 
   its-bytes : a < 256 → c < 256 → (l : List ℕ) → bytesOf (stepCode x ∷ stepAmount x ∷ []) ++ l ≡ a ∷ b ∷ c ∷ d ∷ l
   its-bytes h k l =
       let o = its-own in
-      let z = eqb-true b 0 (meant .0) in
       let p : stepCode x % 256 ≡ a = omega arith in
       let q : stepCode x / 256 ≡ b = omega arith in
       let r : stepAmount x % 256 ≡ c = omega arith in
       let s : stepAmount x / 256 ≡ d = omega arith in
       rw (p, q, r, s)
 
-  its-reading : refusal (reading (stepCode x) (stepAmount x)) ≡ 0
+  its-reading : refusal (reading (stepCode x) 0 (stepAmount x)) ≡ 0
   its-reading =
-      ap (λ k. refusal (reading k (stepAmount x))) (its-own .0)
-      ∙ (ap (λ m. refusal (reading a m)) (its-own .1) ∙ ap refusal (meant .1))
+      ap (λ k. refusal (reading k 0 (stepAmount x))) (its-own .1)
+      ∙ ap (λ m. refusal (reading a 0 m)) (its-own .2)
+      ∙ ap (λ m. refusal (reading a m amount)) (sym (its-own .0))
+      ∙ ap refusal e
 
 -- ---- the records of a part that all mean steps
 abbrev codes : List Reading → List ℕ

@@ -57,12 +57,12 @@ wrong-there (suc k) i rest n = refl
 
 module _ (cs ns : List ℕ) (i : ℕ) where
   pub right-here :
-      i < length cs → i < length ns → refusal (reading (getD cs i 0) (getD ns i 0)) ≡ 0
+      i < length cs → i < length ns → refusal (reading (getD cs i 0) 0 (getD ns i 0)) ≡ 0
       → firstWrong i (drop i cs) (drop i ns) ≡ firstWrong (i + 1) (drop (i + 1) cs) (drop (i + 1) ns)
   right-here h k z = rw (add-one i, drop-cons cs i 0 h, drop-cons ns i 0 k, z)
 
   pub wrong-here :
-      {k : ℕ} → i < length cs → i < length ns → k ≡ refusal (reading (getD cs i 0) (getD ns i 0)) → ¬ (k ≡ 0)
+      {k : ℕ} → i < length cs → i < length ns → k ≡ refusal (reading (getD cs i 0) 0 (getD ns i 0)) → ¬ (k ≡ 0)
       → firstWrong i (drop i cs) (drop i ns) ≡ record { number = k; index = i }
   wrong-here {k} h m e n =
       rw (drop-cons cs i 0 h, drop-cons ns i 0 m, ← e) (wrong-there k i (firstWrong (suc i) (drop (suc i) cs) (drop (suc i) ns)) n)

@@ -83,25 +83,25 @@ module _ (w : Wish) (cs ns out : List ℕ) where
           (same, ap (λ b. cond b (fileOf w cs ns ++ drop (sizeOf w cs) out) out) (sym zero-there))
 
 -- ---- the amounts of records that read fit 16 bits
-plain-small : (x : Step) (n : ℕ) → refusal (plain x n) ≡ 0 → n < 65536
+plain-small : (x : Step) (n : ℕ) → refusal (plain x 0 n) ≡ 0 → n < 65536
 plain-small x n e =
     case (eqb n 0) (λ z. let q = eqb-true n 0 z in omega arith) (λ z. let q = rw z at e in absurd (omega arith))
 
-tick-small : (n : ℕ) → refusal (ticking n) ≡ 0 → n < 65536
+tick-small : (n : ℕ) → refusal (ticking 0 n) ≡ 0 → n < 65536
 tick-small n e =
     case (leb n 65535)
     (λ z. let q = leb-true n 65535 z in omega arith)
     (λ z. case (leb 1 n) (λ y. let q = rw (y, z) at e in absurd (omega arith)) (λ y. let q = rw y at e in absurd (omega arith)))
 
-amount-small : (c n : ℕ) → refusal (reading c n) ≡ 0 → n < 65536
+amount-small : (c n : ℕ) → refusal (reading c 0 n) ≡ 0 → n < 65536
 amount-small c n e =
     elim (decLt c 13) [
       | yes h ↦
-          from (λ k. refusal (reading k n) ≡ 0 → n < 65536) 0 13 (
+          from (λ k. refusal (reading k 0 n) ≡ 0 → n < 65536) 0 13 (
             λ q. absurd (omega arith),
             (plain-small _ n, (plain-small _ n, (plain-small _ n, (plain-small _ n, (plain-small _ n, (plain-small _ n, (plain-small _ n, (plain-small _ n, (plain-small _ n, (plain-small _ n, (plain-small _ n, (tick-small n, tt)))))))))))),
           ) c zero-le h e
-      | no h ↦ let q = rw (List·getD-eq-default (readings n) WrongCode {n = c} (omega arith)) at e in absurd (omega arith)
+      | no h ↦ let q = rw (List·getD-eq-default (readings 0 n) WrongCode {n = c} (omega arith)) at e in absurd (omega arith)
     ]
 
 pub amounts-small : (i : ℕ) (cs ns : List ℕ) → length cs ≡ length ns → firstWrong i cs ns .number ≡ 0 → (j : ℕ) → getD ns j 0 < 65536
@@ -109,6 +109,6 @@ amounts-small i [] [] e z j = omega arith
 amounts-small i [] (n ∷ ns) e z j = absurd (omega arith)
 amounts-small i (c ∷ cs) [] e z j = absurd (omega arith)
 amounts-small i (c ∷ cs) (n ∷ ns) e z zero =
-    amount-small c n (right (refusal (reading c n)) i (firstWrong (suc i) cs ns) z .0)
+    amount-small c n (right (refusal (reading c 0 n)) i (firstWrong (suc i) cs ns) z .0)
 amounts-small i (c ∷ cs) (n ∷ ns) e z (suc j) =
-    amounts-small (suc i) cs ns (omega arith) (right (refusal (reading c n)) i (firstWrong (suc i) cs ns) z .1) j
+    amounts-small (suc i) cs ns (omega arith) (right (refusal (reading c 0 n)) i (firstWrong (suc i) cs ns) z .1) j

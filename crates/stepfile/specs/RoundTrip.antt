@@ -22,7 +22,7 @@ Bytes f = (i : ℕ) → getD f i 0 < 256
 abbrev pub readingsBy : List ℕ → List ℕ → List Reading
 readingsBy [] ns = []
 readingsBy (c ∷ cs) [] = []
-readingsBy (c ∷ cs) (n ∷ ns) = reading c n ∷ readingsBy cs ns
+readingsBy (c ∷ cs) (n ∷ ns) = reading c 0 n ∷ readingsBy cs ns
 
 -- all of them are steps
 abbrev pub AllRead : List Reading → Type 0

@@ -49,7 +49,7 @@ wrongOr (suc k) i rest = record { number = suc k; index = i }
 abbrev pub firstWrong : ℕ → List ℕ → List ℕ → Wrong
 firstWrong i [] ns = record { number = 0; index = 0 }
 firstWrong i (c ∷ cs) [] = record { number = 0; index = 0 }
-firstWrong i (c ∷ cs) (n ∷ ns) = wrongOr (refusal (reading c n)) i (firstWrong (suc i) cs ns)
+firstWrong i (c ∷ cs) (n ∷ ns) = wrongOr (refusal (reading c 0 n)) i (firstWrong (suc i) cs ns)
 
 -- ---- refusals in the order 3, 2, 4, first record with 5 or 6, 15
 abbrev pub lists : ℕ → ℕ → ℕ → List Check

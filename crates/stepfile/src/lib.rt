@@ -3,14 +3,16 @@ ghost use mathlib.Core.Path.{_≡_};
 ghost use Prim.Native.Nat.{_+_, _<_, _≤_};
 ghost use lib.ListN.{length};
 ghost use Rattle.checks.specs.Checks.{first};
+ghost use Rattle.shift.specs.Answers.{refusal};
 ghost use Rattle.stepfile.specs.Bytes.{u16sAt};
-ghost use Rattle.stepfile.specs.Records.{spoiled, recordOf};
+ghost use Rattle.stepfile.specs.Records.{recordOf};
 ghost use Rattle.stepfile.specs.Files.{headed, headedBy, tableIn, refusalOf, fromOffset, recordBytes};
 use limits::Table;
 use numbers::u16_at;
 use numbers::u32_at;
 use shift::Reading;
 use shift::Step;
+use shift::refusal_of;
 
 mod numbers;
 pub mod write;
@@ -133,20 +135,12 @@ pub fn from_offset(file: &[u8]) -> &[u8]
 pub fn record(code: u8, middle: u8, low: u8, high: u8) -> Reading
     ensures { λ r. ⌜ r ≡ recordOf code middle low high ⌝ }
 {
-    let reading = Step::of(code, low as u32 + 256 * (high as u32));
-    if middle == 0 {
-        return reading;
-    }
-    spoil(reading)
+    Step::of(code, middle, low as u32 + 256 * (high as u32))
 }
 
-// With a middle byte that is not 0.
-fn spoil(reading: Reading) -> Reading
-    ensures { λ r. ⌜ r ≡ spoiled reading ⌝ }
+// Refusal 5 or 6 of a record's four bytes, or 0.
+pub fn record_refusal(code: u8, middle: u8, low: u8, high: u8) -> u8
+    ensures { λ r. ⌜ r ≡ refusal (recordOf code middle low high) ⌝ }
 {
-    match reading {
-        Reading::Means(_) => Reading::WrongAmount,
-        Reading::WrongCode => Reading::WrongCode,
-        Reading::WrongAmount => Reading::WrongAmount,
-    }
+    refusal_of(code, middle, low as u32 + 256 * (high as u32))
 }

@@ -8,7 +8,7 @@ ghost use Rattle.limits.specs.Limits.{entries};
 ghost use Rattle.stepfile.specs.Bytes.{bytesOf};
 ghost use Rattle.stepfile.specs.Writing.{wished, entriesOf, headerOf, recordsOf, fileOf, sizeOf, firstWrong, refusedWith, writtenOf, bufferAfter};
 use limits::Table;
-use shift::Step;
+use shift::refusal_of;
 
 // The table to write, or the wish for none.
 pub enum Wish {
@@ -110,7 +110,7 @@ fn first_wrong(codes: &[u8], amounts: &[u32]) -> Wrong
                 index: 0,
             };
         }
-        let number = Step::of(codes[index], amounts[index]).refusal();
+        let number = refusal_of(codes[index], 0, amounts[index]);
         if number != 0 {
             return Wrong { number, index };
         }

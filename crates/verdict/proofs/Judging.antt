@@ -4,7 +4,7 @@ use mathlib.Core.Path.{_≡_, refl, sym, ap, _∙_}
 use mathlib.Core.Bool.{cond}
 use mathlib.Core.List.{List, []}
 use Prim.Native.Nat.{ℕ, zero, suc, _+_, _≤_, _<_}
-use native.Mathlib.Nat.{add-zero}
+use native.Mathlib.Nat.{zero-add, add-zero}
 use native.Mathlib.Omega.{arith}
 use lib.ListN.{length, drop}
 use borrow.Author.Tests.{eq-eqb}
@@ -13,7 +13,8 @@ use Rattle.promises.proofs.Runs.{counted, counted-one, goes-on, stops}
 use Rattle.shift.specs.declared.State.{State}
 use Rattle.shift.specs.declared.Answer.{Answer}
 use Rattle.shift.specs.States.{start}
-use Rattle.shift.specs.Answers.{judged}
+use Rattle.shift.specs.Answers.{guard, led, answer, judged}
+use Rattle.shift.proofs.AnswerLaws.{refuses}
 use Rattle.shift.specs.Runs.{Outcome, run}
 use Rattle.stepfile.specs.declared.Refusal.{Refusal}
 use Rattle.stepfile.specs.Records.{recordAt, recordsIn}
@@ -43,6 +44,20 @@ module _ (t : Table) (l : List ℕ) (s : State) (k i : ℕ) where
   pub ended : length l ≤ i + 3 → left t l s k i ≡ record { count = k; number = 0; state = s }
   ended h =
       ap (λ rs. counted k (run t s rs)) (no-more l i h) ∙ ap (λ c. record { count = c; number = 0; state = s }) (add-zero k)
+
+-- ---- a part whose first record is refused by this number
+module _ (t : Table) (l : List ℕ) (s : State) where
+  pub all-left : left t l s 0 0 ≡ run t s (recordsIn l)
+  all-left = rw zero-add
+
+  pub at-once :
+      (k : ℕ) → 3 < length l → k ≡ guard t s (recordAt l 0) → ¬ (k ≡ 0)
+      → record { number = k; rule = 0; index = 0; state = s } ≡ ofRun (run t s (recordsIn l))
+  at-once k h e n =
+      let r = recordAt l 0 in
+      let a : Answer = record { number = k; rule = 0; state = s } in
+      let answered = refuses k (led s r) s n ∙ ap (λ m. answer m (led s r) s) e in
+      sym (ap ofRun (sym all-left ∙ refused t l s 0 0 h a answered n))
 
 -- ---- a file that is not read, and one that is
 not-read : (k : ℕ) (r : Refusal) (o : Outcome) → ¬ (k ≡ 0) → unread r ≡ reading k r o

@@ -2,7 +2,9 @@
 ghost use mathlib.Core.Path.{_≡_};
 ghost use Prim.Native.Nat.{_+_, _<_};
 ghost use lib.ListN.{length};
-ghost use Rattle.shift.specs.States.{start};
+ghost use Rattle.checks.specs.Checks.{first, Holds};
+ghost use Rattle.limits.specs.declared.Table.{Table};
+ghost use Rattle.shift.specs.Answers.{listed};
 ghost use Rattle.shift.specs.Runs.{run};
 ghost use Rattle.stepfile.specs.Records.{recordAt, recordsIn};
 ghost use Rattle.line.specs.Laying.{laid, after};
@@ -88,11 +90,56 @@ fn word_of(number: u8) -> Word
 pub fn judge_records(first: State, table: Table, records: &[u8]) -> Verdict
     ensures { λ r. ⌜ r ≡ ofRun (run table first (recordsIn (now (records .entry)))) ⌝ }
 {
-    let mut state = first;
+    let number = first.unlisted();
+    if number != 0 {
+        return judge_unlisted(first, number, records);
+    }
+    judge_listed(first, table, records)
+}
+
+// The same from a state that is not listed, and refused with this number: no record is accepted.
+fn judge_unlisted(state: State, unlisted: u8, records: &[u8]) -> Verdict
+    requires { ⌜ (unlisted ≡ first (listed state)) × ¬ (unlisted ≡ 0) ⌝ }
+    ensures { λ r. ⌜ ((t : Table) → r ≡ ofRun (run t state (recordsIn (now (records .entry))))) ⌝ }
+{
+    if records.len() < 4 {
+        return Verdict {
+            number: 0,
+            rule: 0,
+            index: 0,
+            state,
+        };
+    }
+    let wrong = stepfile::record_refusal(records[0], records[1], records[2], records[3]);
+    let number = if wrong == 0 { unlisted } else { wrong };
+    Verdict {
+        number,
+        rule: 0,
+        index: 0,
+        state,
+    }
+}
+
+// The same from a listed state, which every accepted record leads to another of.
+fn judge_listed(first: State, table: Table, records: &[u8]) -> Verdict
+    requires { ⌜ Holds (listed first) ⌝ }
+    ensures { λ r. ⌜ r ≡ ofRun (run table first (recordsIn (now (records .entry)))) ⌝ }
+{
+    // Field by field, which spares the loop the bytes between them.
+    let mut state = State {
+        clock: first.clock,
+        gear_box: first.gear_box,
+        phase: first.phase,
+        phase_time: first.phase_time,
+        stage: first.stage,
+        stage_time: first.stage_time,
+        request_time: first.request_time,
+        failed_phase: first.failed_phase,
+    };
+    let count = records.len() / 4;
     let mut index: usize = 0;
-    let mut at: usize = 0;
-    while at + 3 < records.len() {
-        let answer = state.judged(table, record_at(records, at));
+    while index < count {
+        let answer = state.judged_listed(table, record_at(records, 4 * index));
         let number = answer.number;
         if number != 0 {
             return Verdict {
@@ -104,7 +151,6 @@ pub fn judge_records(first: State, table: Table, records: &[u8]) -> Verdict
         }
         state = answer.state;
         index += 1;
-        at += 4;
     }
     Verdict {
         number: 0,

@@ -1,4 +1,4 @@
--- `ticking` meets its contract: the amount is in its range, or it is not.
+-- `ticking` meets its contract: the middle byte is 0 and the amount in its range, or not.
 -- Assumes nothing.
 use Rattle.shift.proofs.ticking.Statement.{statement}
 use Rattle.shift.proofs.ticking.Tie as tie

@@ -1,49 +1,48 @@
--- `State::judged` meets its contract: no step by its own number, a refused step by the guard's, an accepted one with its effect.
+-- `State::judged` meets its contract: of a listed state the answer is its own; of another no step by its own number, and a step by the 7 of the state.
 -- Assumes nothing.
 use mathlib.Core.Path.{sym, _∙_}
-use native.Mathlib.Omega.{arith}
+use mathlib.Core.List.{_++_}
 use borrow.Author.Needs.{needs}
-use Rattle.shift.specs.Steps.{effect}
-use Rattle.shift.proofs.AnswerLaws.{refuses, accepts, no-step, in-clock}
+use Rattle.checks.proofs.Checks.{first→holds, found-left}
+use Rattle.shift.specs.declared.Step.{Step}
+use Rattle.shift.specs.Steps.{allowed, effect}
+use Rattle.shift.specs.Answers.{listed}
+use Rattle.shift.proofs.AnswerLaws.{refuses, no-step}
+use Rattle.shift.proofs.ListedLaws.{judged-as-listed}
 use Rattle.shift.proofs.State.judged.Statement.{statement}
 use Rattle.shift.proofs.State.judged.Tie as tie
 
 returns : tie.Need-returns
 returns c =
     let a = c .before .before .before .args in
-    rw (c .refused .ensures, c .before .refusal .ensures)
-    (no-step (a .table) (a .self) (a .reading) (c .before .before .match .keys2))
+    let met = first→holds 0 (listed (a .self)) tt (sym (c .before .before .unlisted .ensures) ∙ c .before .if1 .taken) in
+    c .judged-listed .ensures ∙ judged-as-listed (a .table) (a .self) (a .reading) (met .0)
 
 returns-2 : tie.Need-returns-2
 returns-2 c =
-    let a = c .before .before .before .before .before .before .args in
-    let x = c .before .before .before .before .reading .given in
-    let number = c .before .before .guard in
-    rw (x .1, ← number .ensures, c .refused2 .ensures)
-    (refuses (number .result) (effect (a .self) (x .0 .0)) (a .self) (c .before .if1 .taken))
-
-effect-requires : tie.Need-effect-requires
-effect-requires c κs =
     let a = c .before .before .before .before .before .args in
-    let x = c .before .before .before .reading .given in
-    in-clock (a .table) (a .self) (x .0 .0) (sym (c .before .guard .ensures) ∙ c .if1 .left) (omega arith)
+    rw (c .refused .ensures, c .before .refusal .ensures)
+    (no-step (λ (x : Step). listed (a .self) ++ allowed (a .table) (a .self) x) (a .self) (a .reading) (c .before .before .match .keys2))
 
 returns-3 : tie.Need-returns-3
 returns-3 c =
-    let number = c .before .before .guard in
-    rw (c .before .before .before .before .reading .given .1, ← number .ensures, ← c .effect .ensures)
-    (accepts (number .result) (c .effect .result) (c .before .before .before .before .before .before .args .self) (c .before .if1 .left))
+    let a = c .before .before .before .before .before .args in
+    let x = c .before .enum-told .given in
+    let number = c .before .before .before .before .unlisted in
+    let unmet = c .before .before .before .if1 .left in
+    rw (x .1, ← found-left (listed (a .self)) (allowed (a .table) (a .self) (x .0 .0)) (number .ensures) unmet, c .refused2 .ensures)
+    (refuses (number .result) (effect (a .self) (x .0 .0)) (a .self) unmet)
 
 pub judged-spec : {M : Type 1} → statement M
 judged-spec =
     tie.close
     (tie.spec
-    (λ c. search needs)
     (λ _ _. tt)
     (λ _ _. tt)
     returns
+    (λ c. search needs)
     (λ _ _. tt)
     (λ _ _. tt)
     returns-2
-    effect-requires
+    (λ _ _. tt)
     returns-3)

@@ -10,7 +10,7 @@ returns c =
     let a = c .before .before .args in
     let rule = c .before .broken-rule in
     rw (← rule .ensures)
-    (breaks (rule .result) (judged (a .table) (a .self) (reading (a .code) (a .amount))) (a .self) (c .if1 .taken))
+    (breaks (rule .result) (judged (a .table) (a .self) (reading (a .code) 0 (a .amount))) (a .self) (c .if1 .taken))
 
 returns-2 : tie.Need-returns-2
 returns-2 c =

@@ -37,4 +37,4 @@ of-spec =
     (λ c. rw (c .before .match .keys11) (c .plain10 .ensures))
     (λ c. rw (c .before .match .keys12) (c .plain11 .ensures))
     (λ c. rw (c .before .match .keys13) (c .ticking .ensures))
-    (λ c. let a = c .before .args in sym (List·getD-eq-default (readings (a .amount)) WrongCode (past-arms 13 (a .code) (c .match .rest)))))
+    (λ c. let a = c .before .args in sym (List·getD-eq-default (readings (a .middle) (a .amount)) WrongCode (past-arms 13 (a .code) (c .match .rest)))))

@@ -1,10 +1,9 @@
 -- `first_wrong` meets its contract. The loop's invariant: the first wrong record is the first from `index` on.
 -- Assumes nothing.
 use Prim.Native.Nat.{_-_, _≤_}
-use mathlib.Core.Path.{_≡_, refl, sym, ap, _∙_}
+use mathlib.Core.Path.{_≡_, refl, sym, _∙_}
 use native.Mathlib.Omega.{arith}
 use lib.ListN.{length, drop}
-use Rattle.shift.specs.Answers.{refusal}
 use Rattle.stepfile.specs.Writing.{firstWrong}
 use Rattle.stepfile.proofs.StoreLaws.{right-here, wrong-here, none-left, none-paired}
 use Rattle.stepfile.proofs.write.first_wrong.Statement.{statement}
@@ -28,16 +27,16 @@ returns c =
 
 returns-2 : tie.Need-returns-2 Inv-loop μ-loop
 returns-2 c =
-    let l = c .before .before .before .before .before .before .before .loop in
-    let a = c .before .before .before .before .before .before .before .before .before .before .args in
-    let e = c .before .refusal .ensures ∙ ap refusal (c .before .before .of .ensures) in
+    let l = c .before .before .before .before .before .before .loop in
+    let a = c .before .before .before .before .before .before .before .before .before .args in
+    let e = c .before .refusal-of .ensures in
     sym (l .inv .1 ∙ wrong-here (a .codes .now) (a .amounts .now) (l .index) (omega arith) (omega arith) e (c .if2 .taken))
 
 loop-again : tie.Need-loop-again Inv-loop μ-loop
 loop-again c =
-    let l = c .before .before .before .before .before .before .before .loop in
-    let a = c .before .before .before .before .before .before .before .before .before .before .args in
-    let e = c .before .refusal .ensures ∙ ap refusal (c .before .before .of .ensures) in (
+    let l = c .before .before .before .before .before .before .loop in
+    let a = c .before .before .before .before .before .before .before .before .before .args in
+    let e = c .before .refusal-of .ensures in (
       omega arith,
       l .inv .1 ∙ right-here (a .codes .now) (a .amounts .now) (l .index) (omega arith) (omega arith) (sym e ∙ c .if2 .left),
     )
@@ -59,7 +58,6 @@ first-wrong-spec =
     (λ c. omega arith)
     (λ c. omega arith)
     (λ c. omega arith)
-    (λ _ _. tt)
     (λ _ _. tt)
     returns-2
     (λ c. omega arith)
