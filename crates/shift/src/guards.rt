@@ -2,6 +2,7 @@
 ghost use mathlib.Core.Path.{_≡_};
 ghost use mathlib.Core.Bool.{cond};
 ghost use mathlib.Core.List.{_++_};
+ghost use Prim.Native.Nat.{_+_};
 ghost use lib.Dec.{ltb};
 ghost use Rattle.checks.specs.Checks.{first};
 ghost use Rattle.phases.specs.Phases.{unfinished};
@@ -20,6 +21,7 @@ use phases::order_of;
 use phases::phase_limit;
 use times::is_early;
 use times::is_late;
+use times::overruns;
 use times::passes;
 use times::ticked;
 
@@ -40,7 +42,7 @@ impl State {
             Step::AskClutch => self.in_ask_time(table),
             Step::RaiseError => self.shifts_in(4),
             Step::Finish => self.is_done(),
-            Step::Tick(amount) => self.in_tick_time(table, ticked(self.clock, amount)),
+            Step::Tick(amount) => self.in_tick_time(table, amount),
         }
     }
 
@@ -160,13 +162,14 @@ impl State {
         0
     }
 
-    // The clock can be moved to `now`.
-    fn in_tick_time(self, table: Table, now: u64) -> u8
-        ensures { λ r. ⌜ r ≡ first (inTickTime table self now) ⌝ }
+    // The clock can be moved by this amount.
+    fn in_tick_time(self, table: Table, amount: u32) -> u8
+        ensures { λ r. ⌜ r ≡ first (inTickTime table self (self .clock + amount)) ⌝ }
     {
-        if 4294967295 < now {
+        if overruns(self.clock, amount) {
             return 13;
         }
+        let now = ticked(self.clock, amount);
         if self.passes_stage(table, now) {
             return 12;
         }

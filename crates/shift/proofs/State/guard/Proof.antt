@@ -32,7 +32,6 @@ guard-spec =
     (λ _ _. tt)
     (λ c. search needs)
     (λ _ _. tt)
-    (λ _ _. tt)
     (λ c. rw (c .before .enum-told .given .1) (c .rests-in .ensures))
     (λ c. rw (c .before .enum-told2 .given .1) (c .rests-in2 .ensures))
     (λ c. rw (c .before .enum-told3 .given .1) (c .rests-in3 .ensures))
@@ -44,4 +43,4 @@ guard-spec =
     (λ c. rw (c .before .enum-told9 .given .1) (c .in-ask-time .ensures))
     (λ c. rw (c .before .enum-told10 .given .1) (c .shifts-in3 .ensures))
     (λ c. rw (c .before .enum-told11 .given .1) (c .is-done .ensures))
-    (λ c. rw (c .before .before .before .x .given .1) (rw (c .before .ticked .ensures) at (c .in-tick-time .ensures))))
+    (λ c. rw (c .before .before .x .given .1) (c .in-tick-time .ensures)))
