@@ -1,0 +1,24 @@
+/* The straightforward C version's running judge: one record at a time on a state that the caller keeps. */
+#include "reference.h"
+#include "rules.h"
+
+static int is_listed(const munasirel_state *state)
+{
+    return state->phase <= MUNASIREL_PHASE_ERROR && state->stage <= MUNASIREL_STAGE_WAITING &&
+           state->gear_box <= MUNASIREL_BOX_IN_GEAR;
+}
+
+uint8_t reference_advance(munasirel_state *state, const uint16_t table[LIMITS], const uint8_t record[4])
+{
+    uint8_t code;
+    uint16_t amount;
+
+    if (broken_rule(table) != 0)
+        return MUNASIREL_TABLE_NOT_ADMITTED;
+    uint8_t number = read_record(record, &code, &amount);
+    if (number != 0)
+        return number;
+    if (!is_listed(state))
+        return MUNASIREL_NOT_ALLOWED;
+    return step(state, table, code, amount);
+}

@@ -1,0 +1,244 @@
+/* Holds the library and the C version to each other: on the files named, on files made by chance, half of them damaged, and on
+ * single records at any state and under any table.
+ *
+ *     agree FILE..
+ *
+ * The status is 0 where nothing differs, and every number and rule that can come up did. */
+#include <stdio.h>
+#include <string.h>
+
+#include "reference.h"
+#include "rules.h"
+
+enum { MADE_FILES = 20000, MADE_RECORDS = 200000 };
+
+static uint8_t file[MUNASIREL_LONGEST_FILE + 1];
+static size_t file_length;
+
+/* How often each number and rule came up. */
+static unsigned numbers_of_files[14], numbers_of_records[14], rules[16];
+
+/* ---- the comparison */
+static munasirel_limits limits_in(const uint16_t table[LIMITS])
+{
+    munasirel_limits limits;
+    memcpy(&limits, table, sizeof limits);
+    return limits;
+}
+
+static int same_line(size_t room)
+{
+    uint8_t library[MUNASIREL_LINE_ROOM] = {0}, c[MUNASIREL_LINE_ROOM] = {0};
+    size_t library_length, c_length;
+    uint8_t library_number = munasirel_line(file, file_length, library, room, &library_length);
+    uint8_t c_number = reference_line(file, file_length, c, room, &c_length);
+    return library_number == c_number && library_length == c_length && memcmp(library, c, sizeof c) == 0;
+}
+
+static int same_verdict(void)
+{
+    struct verdict verdict = reference_judge(file, file_length);
+    uint8_t number = munasirel_judge(file, file_length);
+    uint8_t rule = number == MUNASIREL_TABLE_NOT_ADMITTED ? munasirel_admit(munasirel_table(file, file_length)) : 0;
+    numbers_of_files[number]++;
+    rules[rule]++;
+    return number == verdict.number && rule == verdict.rule && same_line(MUNASIREL_LINE_ROOM) && same_line(20);
+}
+
+static int same_advance(const munasirel_state *state, const uint16_t table[LIMITS], const uint8_t record[4])
+{
+    munasirel_state library = *state, c = *state;
+    uint8_t number = munasirel_advance(&library, limits_in(table), record[0], record[1], record[2], record[3]);
+    numbers_of_records[number]++;
+    return number == reference_advance(&c, table, record) && library.clock == c.clock && library.gear_box == c.gear_box &&
+           library.phase == c.phase && library.phase_time == c.phase_time && library.stage == c.stage &&
+           library.stage_time == c.stage_time && library.request_time == c.request_time && library.failed_phase == c.failed_phase;
+}
+
+/* ---- chance, the same in every run */
+static uint32_t below(uint32_t bound)
+{
+    static uint64_t chance = 1;
+    chance ^= chance << 13;
+    chance ^= chance >> 7;
+    chance ^= chance << 17;
+    return (uint32_t)(chance >> 32) % bound;
+}
+
+static int once_in(uint32_t bound)
+{
+    return below(bound) == 0;
+}
+
+/* A table that keeps each rule narrowly, or with one entry changed. */
+static void make_table(uint16_t table[LIMITS])
+{
+    for (int i = CHANNEL_DL; i <= GEAR_RELEASE_DL; i++)
+        table[i] = 1 + below(40);
+    uint16_t channels = 2 * table[CHANNEL_DL];
+    table[SYNC_EX] = channels + table[ENGINE_SYNC_DL] + below(2);
+    table[ZERO_EX] = channels + table[ENGINE_ZERO_DL] + below(2);
+    table[OPEN_CLUTCH_DL] = channels + table[CLUTCH_OPEN_DL] + 1 + below(2);
+    table[CLOSE_CLUTCH_DL] = channels + table[CLUTCH_CLOSE_DL] + 1 + below(2);
+    table[SET_GEAR_DL] = channels + table[GEAR_SET_DL] + 1 + below(2);
+    table[RELEASE_DL] = channels + table[GEAR_RELEASE_DL] + 1 + below(2);
+    table[SYNC_DE] = table[SYNC_EX] + 1 + below(2);
+    table[ZERO_DE] = table[ZERO_EX] + 1 + below(2);
+    table[SYNC_DL] = table[SYNC_DE] + below(2);
+    table[ZERO_DL] = table[ZERO_DE] + (once_in(2) ? below(2) : below(200));
+    uint16_t f = table[SYNC_DL] + table[OPEN_CLUTCH_DL] + table[SET_GEAR_DL] + table[CLOSE_CLUTCH_DL];
+    uint16_t n = table[ZERO_DL] + table[OPEN_CLUTCH_DL] + table[RELEASE_DL] + table[CLOSE_CLUTCH_DL];
+    uint16_t g1 = table[ZERO_EX] + table[RELEASE_DL] + f, g2 = n + table[SET_GEAR_DL];
+    const uint16_t sums[] = {f, n, g1, g2, g1 > g2 ? g1 : g2};
+    table[CHANGE_DL] = sums[once_in(4) ? below(4) : 4];
+    if (once_in(4))
+        table[below(LIMITS)] += 2 * below(2) - 1;
+    else if (once_in(20))
+        table[below(LIMITS)] = below(2);
+}
+
+/* A step of any kind; a tick ends nearby, or at a limit or right beside it. */
+static void make_record(const munasirel_state *state, const uint16_t table[LIMITS], uint8_t record[4])
+{
+    int is_tick = once_in(2);
+    uint16_t limit = table[below(LIMITS)];
+    const uint32_t ends[] = {state->clock + below(6), state->stage_time + limit, state->phase_time + limit, UINT32_MAX};
+    uint16_t amount = is_tick ? ends[below(4)] + below(3) - 1 - state->clock : 0;
+    record[0] = is_tick ? MUNASIREL_STEP_TICK : 1 + below(11);
+    record[1] = 0;
+    record[2] = amount & 255;
+    record[3] = amount >> 8;
+    if (once_in(100))
+        record[below(4)] = below(256);
+}
+
+static void put_numbers(uint8_t *bytes, const uint16_t *numbers, size_t count)
+{
+    for (size_t i = 0; i < count; i++) {
+        bytes[2 * i] = numbers[i] & 255;
+        bytes[2 * i + 1] = numbers[i] >> 8;
+    }
+}
+
+/* A file of steps that, but for a few, are allowed one after the other. */
+static void make_file(void)
+{
+    uint16_t table[LIMITS], entries = once_in(2) ? LIMITS : 0, count = 0;
+    munasirel_state state = {0};
+    memcpy(table, default_table, sizeof default_table);
+    if (entries != 0)
+        make_table(table);
+    for (uint32_t tries = below(1000); tries > 0; tries--) {
+        uint8_t *record = file + 12 + 2 * entries + 4 * count;
+        make_record(&state, table, record);
+        if (reference_advance(&state, table, record) == 0 || once_in(400))
+            count++;
+    }
+    const uint16_t header[] = {12, entries, 12 + 2 * entries, 0, count, 0};
+    put_numbers(file, header, 6);
+    put_numbers(file + 12, table, entries);
+    file_length = 12 + 2 * (size_t)entries + 4 * (size_t)count;
+}
+
+/* One byte changed, or another length. */
+static void damage_file(void)
+{
+    switch (below(4)) {
+    case 0:
+        file[below(12)] = below(256);
+        break;
+    case 1:
+        file[below((uint32_t)file_length)] = below(256);
+        break;
+    case 2:
+        file_length = below((uint32_t)file_length);
+        break;
+    default:
+        file_length += 1 + below(8);
+    }
+}
+
+/* Any state: nearly listed, its times shortly before its clock, or not. */
+static void make_state(munasirel_state *state)
+{
+    state->clock = once_in(4) ? UINT32_MAX - below(70000) : 1000 + below(1000);
+    state->gear_box = once_in(20) ? below(256) : below(2);
+    state->phase = once_in(20) ? below(256) : below(24);
+    state->phase_time = state->clock - (once_in(20) ? below(UINT32_MAX) : below(300));
+    state->stage = once_in(20) ? below(256) : below(6);
+    state->stage_time = state->clock - (once_in(20) ? below(UINT32_MAX) : below(300));
+    state->request_time = below(UINT32_MAX);
+    state->failed_phase = below(256);
+}
+
+/* ---- the runs: each answers how often the two differ */
+static unsigned compare_named(int count, char **names)
+{
+    unsigned differ = 0;
+    for (int i = 0; i < count; i++) {
+        FILE *from = fopen(names[i], "rb");
+        file_length = from ? fread(file, 1, sizeof file, from) : 0;
+        if (!from || !same_verdict()) {
+            printf("%s: the verdicts differ, or it can not be read\n", names[i]);
+            differ++;
+        }
+        if (from)
+            fclose(from);
+    }
+    return differ;
+}
+
+static unsigned compare_made(void)
+{
+    unsigned differ = 0;
+    for (int i = 0; i < MADE_FILES; i++) {
+        make_file();
+        if (i % 2 == 1)
+            damage_file();
+        if (!same_verdict()) {
+            printf("file %d made by chance: the verdicts differ\n", i);
+            differ++;
+        }
+    }
+    return differ;
+}
+
+static unsigned compare_records(void)
+{
+    unsigned differ = 0;
+    for (int i = 0; i < MADE_RECORDS; i++) {
+        munasirel_state state;
+        uint16_t table[LIMITS];
+        uint8_t record[4];
+        make_state(&state);
+        make_table(table);
+        make_record(&state, table, record);
+        if (!same_advance(&state, table, record)) {
+            printf("record %d made by chance: the answers differ\n", i);
+            differ++;
+        }
+    }
+    return differ;
+}
+
+/* The numbers and rules that never came up; a file never gives 10, and would have to be longer to give 13. */
+static unsigned never_came_up(void)
+{
+    unsigned never = 0;
+    for (unsigned i = 0; i < 14; i++) {
+        never += i != 10 && i != 13 && numbers_of_files[i] == 0;
+        never += (i == 0 || i >= 4) && numbers_of_records[i] == 0;
+    }
+    for (unsigned i = 0; i < 16; i++)
+        never += rules[i] == 0;
+    return never;
+}
+
+int main(int words, char **word)
+{
+    unsigned differ = compare_named(words - 1, word + 1) + compare_made() + compare_records();
+    unsigned never = never_came_up();
+    printf("Held to each other on %d files, %d made by chance and %d single records: %u differ, %u cases never came up.\n",
+           words - 1, MADE_FILES, MADE_RECORDS, differ, never);
+    return differ == 0 && never == 0 ? 0 : 1;
+}

@@ -1,0 +1,87 @@
+/* The straightforward C version's judge: a step file to its verdict, and the line of it. */
+#include <stdio.h>
+#include <string.h>
+
+#include "reference.h"
+#include "rules.h"
+
+static uint32_t u32_at(const uint8_t *bytes)
+{
+    return u16_at(bytes) | (uint32_t)u16_at(bytes + 2) << 16;
+}
+
+/* 1, 2 or 3 for a file whose header or length is wrong, else 0. */
+static uint8_t refused_header(const uint8_t *file, size_t file_length)
+{
+    if (file_length < 12)
+        return MUNASIREL_TOO_SHORT;
+    uint16_t table_offset = u16_at(file);
+    uint16_t entries = u16_at(file + 2);
+    uint32_t record_offset = u32_at(file + 4);
+    uint32_t count = u32_at(file + 8);
+    if (table_offset != 12 || (entries != 0 && entries != LIMITS) || record_offset != 12u + 2u * entries ||
+        count > MUNASIREL_MOST_RECORDS)
+        return MUNASIREL_BAD_HEADER;
+    if (file_length != record_offset + 4 * (size_t)count)
+        return MUNASIREL_BAD_LENGTH;
+    return MUNASIREL_ACCEPTED;
+}
+
+/* The table of a file with a good header. */
+static void read_table(const uint8_t *file, uint16_t table[LIMITS])
+{
+    int entries = u16_at(file + 2);
+    for (int i = 0; i < LIMITS; i++)
+        table[i] = entries == 0 ? default_table[i] : u16_at(file + 12 + 2 * i);
+}
+
+static uint8_t judge_record(munasirel_state *state, const uint16_t table[LIMITS], const uint8_t record[4])
+{
+    uint8_t code;
+    uint16_t amount;
+    uint8_t number = read_record(record, &code, &amount);
+
+    if (number != 0)
+        return number;
+    return step(state, table, code, amount);
+}
+
+struct verdict reference_judge(const uint8_t *file, size_t file_length)
+{
+    munasirel_state state = {0};
+    uint16_t table[LIMITS];
+
+    uint8_t number = refused_header(file, file_length);
+    if (number != 0)
+        return (struct verdict){number, 0, 0, state};
+    read_table(file, table);
+    uint8_t rule = broken_rule(table);
+    if (rule != 0)
+        return (struct verdict){MUNASIREL_TABLE_NOT_ADMITTED, rule, 0, state};
+
+    const uint8_t *records = file + u32_at(file + 4);
+    size_t count = u32_at(file + 8);
+    for (size_t index = 0; index < count; index++) {
+        number = judge_record(&state, table, records + 4 * index);
+        if (number != 0)
+            return (struct verdict){number, 0, index, state};
+    }
+    return (struct verdict){MUNASIREL_ACCEPTED, 0, count, state};
+}
+
+uint8_t reference_line(const uint8_t *file, size_t file_length, uint8_t *out, size_t out_length, size_t *line_length)
+{
+    struct verdict verdict = reference_judge(file, file_length);
+    const munasirel_state *state = &verdict.state;
+    const char *word = verdict.number == 0 ? "accepted" : verdict.number <= MUNASIREL_TABLE_NOT_ADMITTED ? "unread" : "refused";
+    char line[MUNASIREL_LINE_ROOM];
+    size_t length = (size_t)snprintf(line, sizeof line, "%s %zu %u %u %u %u\n", word, verdict.index, (unsigned)verdict.number,
+                                     (unsigned)state->clock, (unsigned)state->phase, (unsigned)state->gear_box);
+
+    *line_length = 0;
+    if (length > out_length)
+        return MUNASIREL_NO_ROOM;
+    memcpy(out, line, length);
+    *line_length = length;
+    return MUNASIREL_ACCEPTED;
+}
