@@ -1,0 +1,140 @@
+/* Works on a step file by the library and by the C version, to have its instructions counted or its time taken.
+ *
+ *     measure CALL TIMES FILE    makes a call so many times; the running judges advance over all the file's records
+ *     measure FILE               prints the nanoseconds a record of judging, the best and the median of the library, then of C
+ *
+ * The status is the number that refuses the file, or 0. */
+#define _POSIX_C_SOURCE 199309L
+#include <stdio.h>
+#include <stdlib.h>
+#include <string.h>
+#include <time.h>
+
+#include "reference.h"
+
+static uint8_t file[MUNASIREL_LONGEST_FILE];
+static size_t file_length;
+static const uint8_t *records;
+
+/* ---- the calls */
+static uint8_t library_judge(void)
+{
+    return munasirel_judge(file, file_length);
+}
+
+static uint8_t c_judge(void)
+{
+    return reference_judge(file, file_length).number;
+}
+
+static uint8_t library_line(void)
+{
+    uint8_t line[MUNASIREL_LINE_ROOM];
+    size_t length;
+    return munasirel_line(file, file_length, line, sizeof line, &length);
+}
+
+static uint8_t c_line(void)
+{
+    uint8_t line[MUNASIREL_LINE_ROOM];
+    size_t length;
+    return reference_line(file, file_length, line, sizeof line, &length);
+}
+
+static uint8_t library_advance(void)
+{
+    munasirel_limits table = munasirel_table(file, file_length);
+    munasirel_state state = {0};
+    uint8_t number = 0;
+    for (const uint8_t *record = records; number == 0 && record < file + file_length; record += 4)
+        number = munasirel_advance(&state, table, record[0], record[1], record[2], record[3]);
+    return number;
+}
+
+static uint8_t c_advance(void)
+{
+    munasirel_limits limits = munasirel_table(file, file_length);
+    uint16_t table[18];
+    munasirel_state state = {0};
+    uint8_t number = 0;
+    memcpy(table, &limits, sizeof table);
+    for (const uint8_t *record = records; number == 0 && record < file + file_length; record += 4)
+        number = reference_advance(&state, table, record);
+    return number;
+}
+
+static const struct {
+    const char *name;
+    uint8_t (*call)(void);
+} calls[] = {
+    {"library-judge", library_judge}, {"library-line", library_line}, {"library-advance", library_advance},
+    {"C-judge", c_judge},             {"C-line", c_line},             {"C-advance", c_advance},
+};
+
+static uint8_t repeat(uint8_t (*call)(void), int times)
+{
+    uint8_t number = 0;
+    for (int i = 0; number == 0 && i < times; i++)
+        number = call();
+    return number;
+}
+
+/* ---- the clock */
+enum { ROUNDS = 15, REPEATS = 20 };
+
+static double nanoseconds_a_record(uint8_t (*call)(void))
+{
+    struct timespec from, to;
+    clock_gettime(CLOCK_MONOTONIC, &from);
+    repeat(call, REPEATS);
+    clock_gettime(CLOCK_MONOTONIC, &to);
+    double taken = (double)(to.tv_sec - from.tv_sec) * 1e9 + (double)(to.tv_nsec - from.tv_nsec);
+    return taken / REPEATS / ((double)(file + file_length - records) / 4);
+}
+
+static int ascending(const void *a, const void *b)
+{
+    double x = *(const double *)a, y = *(const double *)b;
+    return (x > y) - (x < y);
+}
+
+/* The library and C in turns, so that what else the machine does falls on both. */
+static uint8_t take_times(void)
+{
+    double library[ROUNDS], c[ROUNDS];
+    uint8_t number = library_judge();
+    if (number != 0)
+        return number;
+    for (int i = 0; i < ROUNDS; i++) {
+        library[i] = nanoseconds_a_record(library_judge);
+        c[i] = nanoseconds_a_record(c_judge);
+    }
+    qsort(library, ROUNDS, sizeof *library, ascending);
+    qsort(c, ROUNDS, sizeof *c, ascending);
+    printf("%.2f %.2f %.2f %.2f\n", library[0], library[ROUNDS / 2], c[0], c[ROUNDS / 2]);
+    return 0;
+}
+
+/* ---- the file */
+static int load(const char *name)
+{
+    FILE *from = fopen(name, "rb");
+    if (!from)
+        return 0;
+    file_length = fread(file, 1, sizeof file, from);
+    fclose(from);
+    records = file + file[4];
+    return 1;
+}
+
+int main(int words, char **word)
+{
+    if ((words != 2 && words != 4) || !load(word[words - 1]))
+        return 2;
+    if (words == 2)
+        return take_times();
+    for (size_t i = 0; i < sizeof calls / sizeof *calls; i++)
+        if (strcmp(calls[i].name, word[1]) == 0)
+            return repeat(calls[i].call, atoi(word[2]));
+    return 2;
+}
