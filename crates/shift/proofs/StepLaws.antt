@@ -1,14 +1,16 @@
 -- Laws on the steps: where a limit applies, and where 0 is held against it.
 -- Assumes nothing.
-use mathlib.Core.Path.{_≡_, refl, sym}
-use mathlib.Core.Bool.{Bool, true, false, cond, _&&_}
+use mathlib.Core.Path.{_≡_, refl, sym, subst}
+use mathlib.Core.Bool.{Bool, true, false, cond, _&&_, _||_}
+use mathlib.Core.Logic.{⊎-elim}
 use mathlib.Core.List.{[], _∷_}
 use Prim.Native.Nat.{ℕ, _≤_, _<_, zero-le}
+use native.Mathlib.Decide.{decLt}
 use native.Mathlib.Omega.{arith}
-use lib.Dec.{T, leb, ltb, leb→le}
+use lib.Dec.{T, leb, ltb, eqb, leb→le, eqb→eq}
 use lib.ListN.{getD}
-use borrow.Author.Tests.{le-leb, lt-leb, le-ltb}
-use Rattle.checks.proofs.Tests.{left, right}
+use borrow.Author.Tests.{le-leb, lt-leb, le-ltb, eqb-false}
+use Rattle.checks.proofs.Tests.{passes, case, left, right, either}
 use Rattle.checks.proofs.Ranges.{from}
 use Rattle.phases.proofs.PhaseLaws.{unfinished-in}
 use Rattle.shift.specs.declared.State.{State}
@@ -47,12 +49,19 @@ module _ (s : State) (x : ℕ) where
   pub ended-free : 21 < s .phase → cond (limited s) x 0 ≡ 0
   ended-free m = rw (le-leb 1 (s .phase) (omega arith), lt-leb (s .phase) 21 m)
 
-  pub none-free : 1 ≤ s .phase → s .phase ≤ 21 → s .stage < 1 → cond (limited s) x 0 ≡ 0
+  none-free : 1 ≤ s .phase → s .phase ≤ 21 → s .stage < 1 → cond (limited s) x 0 ≡ 0
   none-free l m i = rw (le-leb 1 (s .phase) l, le-leb (s .phase) 21 m, lt-leb 1 (s .stage) i)
 
-  pub late-free : 1 ≤ s .phase → s .phase ≤ 21 → 3 < s .stage → cond (limited s) x 0 ≡ 0
+  late-free : 1 ≤ s .phase → s .phase ≤ 21 → 3 < s .stage → cond (limited s) x 0 ≡ 0
   late-free l m j =
       rw (le-leb 1 (s .phase) l, le-leb (s .phase) 21 m, le-leb 1 (s .stage) (omega arith), lt-leb (s .stage) 3 j)
+
+  pub idle-free : 1 ≤ s .phase → s .phase ≤ 21 → ¬ (s .stage ≡ 1) × ¬ (s .stage ≡ 3) → ¬ (s .stage ≡ 2) → cond (limited s) x 0 ≡ 0
+  idle-free l m n o =
+      elim (decLt (s .stage) 1) [
+        | yes i ↦ none-free l m i
+        | no i ↦ late-free l m (omega arith)
+      ]
 
 -- where it applies
 pub limited-in : (s : State) → T (limited s) → (1 ≤ s .phase) × (s .phase ≤ 21) × (1 ≤ s .stage) × (s .stage ≤ 3)
@@ -68,6 +77,21 @@ limited-in s h =
 -- the channel's limit in stages 1 and 3
 pub by-channel : (ch device g : ℕ) → 1 ≤ g → g < 4 → ¬ (g ≡ 2) → getD (0 ∷ ch ∷ device ∷ ch ∷ []) g 0 ≡ ch
 by-channel ch device = from _ 1 3 (omega arith)
+
+-- one of these stages, and none of them
+module _ (g : ℕ) where
+  pub on-channel : (eqb g 1 || eqb g 3) ≡ true → (1 ≤ g) × (g ≤ 3) × ¬ (g ≡ 2)
+  on-channel e =
+      ⊎-elim
+      (λ t. let z = eqb→eq g 1 t in (omega arith, omega arith, λ two. absurd (omega arith)))
+      (λ t. let z = eqb→eq g 3 t in (omega arith, omega arith, λ two. absurd (omega arith)))
+      (either (eqb g 1) (eqb g 3) (passes (eqb g 1 || eqb g 3) e))
+
+  pub off-channel : (eqb g 1 || eqb g 3) ≡ false → ¬ (g ≡ 1) × ¬ (g ≡ 3)
+  off-channel e =
+      case (eqb g 1)
+      (λ y. let n = rw y at e in absurd (subst T n tt))
+      (λ y. let n = rw y at e in (eqb-false g 1 y, eqb-false g 3 n))
 
 -- ---- EX, in the engine phases
 module _ (p x : ℕ) where

@@ -23,7 +23,6 @@ use times::is_early;
 use times::is_late;
 use times::overruns;
 use times::passes;
-use times::ticked;
 
 impl State {
     // 0 where a listed state allows the step, else the number that refuses it.
@@ -166,10 +165,11 @@ impl State {
     fn in_tick_time(self, table: Table, amount: u32) -> u8
         ensures { λ r. ⌜ r ≡ first (inTickTime table self (self .clock + amount)) ⌝ }
     {
-        if overruns(self.clock, amount) {
+        let clock = self.clock;
+        if overruns(clock, amount) {
             return 13;
         }
-        let now = ticked(self.clock, amount);
+        let now = (clock + amount) as u64;
         if self.passes_stage(table, now) {
             return 12;
         }
@@ -191,16 +191,13 @@ impl State {
         if 21 < phase {
             return false;
         }
+        if (stage == 1) | (stage == 3) {
+            return passes(now, self.stage_time, table.channel_dl);
+        }
         if stage == 2 {
             return passes(now, self.stage_time, device_limit(table, order_of(phase)));
         }
-        if stage < 1 {
-            return false;
-        }
-        if 3 < stage {
-            return false;
-        }
-        passes(now, self.stage_time, table.channel_dl)
+        false
     }
 
     // The clock `now` is past the phase's limit.

@@ -2,14 +2,10 @@
 -- Assumes nothing.
 use mathlib.Core.Path.{sym, _∙_}
 use Rattle.checks.specs.Determined.{Determined}
-use Rattle.times.proofs.ticked.Reads as ticked-reads
 use Rattle.times.proofs.overruns.Reads as overruns-reads
 use Rattle.times.proofs.passes.Reads as passes-reads
 use Rattle.times.proofs.is_late.Reads as is-late-reads
 use Rattle.times.proofs.is_early.Reads as is-early-reads
-
-pub ticked : Determined ticked-reads.Post
-ticked κs a x y at at′ p q = p ∙ sym q
 
 pub overruns : Determined overruns-reads.Post
 overruns κs a x y at at′ p q = p ∙ sym q

@@ -3,13 +3,6 @@ ghost use mathlib.Core.Path.{_≡_};
 ghost use Prim.Native.Nat.{_+_};
 ghost use lib.Dec.{ltb};
 
-// The clock after a tick.
-pub fn ticked(clock: u32, amount: u32) -> u64
-    ensures { λ r. ⌜ r ≡ clock + amount ⌝ }
-{
-    clock as u64 + (amount as u64)
-}
-
 // A tick would move the clock past its 32 bits. The room that is left is asked for, which takes fewer instructions than the sum.
 pub fn overruns(clock: u32, amount: u32) -> bool
     ensures { λ r. ⌜ r ≡ ltb 4294967295 (clock + amount) ⌝ }
