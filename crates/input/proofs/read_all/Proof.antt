@@ -4,8 +4,8 @@ use Prim.Native.Nat.{_-_, _≤_}
 use mathlib.Core.Path.{_≡_, refl}
 use native.Mathlib.Omega.{arith}
 use lib.ListN.{length}
-use Rattle.judge.proofs.read_all.Statement.{statement}
-use Rattle.judge.proofs.read_all.Tie as tie
+use Rattle.input.proofs.read_all.Statement.{statement}
+use Rattle.input.proofs.read_all.Tie as tie
 
 abbrev Inv-loop : tie.InvT-loop
 Inv-loop fd buffer₀ done₀ buffer done = (done ≤ length buffer) × (length buffer ≡ length buffer₀)
