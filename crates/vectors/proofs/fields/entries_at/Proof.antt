@@ -1,0 +1,55 @@
+-- `entries_at` meets its contract. The loop's invariant: with what is still to be stored, the entries are those of the field.
+-- Assumes nothing.
+use Prim.Native.Nat.{_+_, _*_, _-_, _≤_}
+use mathlib.Core.Path.{_≡_, refl, sym, _∙_}
+use native.Mathlib.Omega.{arith}
+use lib.ListN.{length, length-set}
+use lib.Seq.{sets}
+use borrow.Author.Needs.{needs}
+use Rattle.stepfile.specs.Bytes.{u16At, u16sAt}
+use Rattle.vectors.specs.Fields.{numbersAt}
+use Rattle.vectors.proofs.Storing.{stored, all-stored}
+use Rattle.vectors.proofs.fields.entries_at.Statement.{statement}
+use Rattle.vectors.proofs.fields.entries_at.Tie as tie
+
+abbrev Inv-loop : tie.InvT-loop
+Inv-loop bytes at entries₀ from₀ i₀ entries from i =
+    (i ≤ 18)
+    × (from ≡ at + 2 * i)
+    × (length entries ≡ 18)
+    × (u16sAt bytes at 18 ≡ sets entries i (numbersAt (u16At bytes) 2 from (18 - i)))
+
+abbrev μ-loop : tie.MeasureT-loop
+μ-loop bytes at entries₀ from₀ i₀ entries from i = 18 - i
+
+loop-again : tie.Need-loop-again Inv-loop μ-loop
+loop-again c =
+    let l = c .before .before .loop in
+    let bytes = c .before .before .before .before .args .bytes .now in (
+      omega arith,
+      omega arith,
+      simp length-set (l .inv .2),
+      l .inv .3 ∙ stored (u16At bytes) 2 (l .from) 18 (l .i) (l .entries) (c .before .loop-test .taken) ∙ rw (c .u16-at .ensures),
+    )
+
+returns : tie.Need-returns Inv-loop μ-loop
+returns c =
+    let l = c .before .loop in
+    let bytes = c .before .before .before .args .bytes .now in
+    sym (l .inv .3 ∙ all-stored (u16At bytes) 2 (l .from) 18 (l .i) (l .entries) (c .loop-test .left))
+
+pub entries-at-spec : {M : Type 1} → statement M
+entries-at-spec =
+    tie.close
+    (tie.spec
+    Inv-loop
+    μ-loop
+    (λ c. (omega arith, omega arith, refl, refl))
+    (λ c κs. omega arith)
+    (λ c. search needs)
+    (λ c. search needs)
+    (λ c. omega arith)
+    (λ c. omega arith)
+    (λ c. omega arith)
+    loop-again
+    returns)

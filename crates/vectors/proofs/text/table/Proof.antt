@@ -1,0 +1,29 @@
+-- `table` is safe: the loop's index stays below 18.
+-- Assumes nothing.
+use Prim.Native.Nat.{_-_, _≤_}
+use native.Mathlib.Omega.{arith}
+use borrow.Author.Needs.{needs}
+use Rattle.vectors.proofs.text.table.Statement.{statement}
+use Rattle.vectors.proofs.text.table.Tie as tie
+
+abbrev Inv-loop : tie.InvT-loop
+Inv-loop entries i₀ i = i ≤ 18
+
+abbrev μ-loop : tie.MeasureT-loop
+μ-loop entries i₀ i = 18 - i
+
+pub table-spec : {M : Type 1} → statement M
+table-spec =
+    tie.close
+    (tie.spec
+    Inv-loop
+    μ-loop
+    (λ c κs. search needs)
+    (λ c. omega arith)
+    (λ c. omega arith)
+    (λ c. omega arith)
+    (λ c κs. search needs)
+    (λ c. omega arith)
+    (λ c. omega arith)
+    (λ c. omega arith)
+    (λ c. search needs))

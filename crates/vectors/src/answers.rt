@@ -1,0 +1,98 @@
+// What a case of each kind is answered by: the line behind its word.
+ghost use Prim.Native.Nat.{_≤_};
+ghost use lib.ListN.{length};
+use crate::fields::read_amounts;
+use crate::fields::state_in;
+use crate::fields::table_at;
+use crate::fields::u32_at;
+use crate::fields::usize_at;
+use crate::text;
+use crate::text::number;
+use crate::text::number8;
+use shift::Answer;
+use stepfile::write::Wish;
+use stepfile::write::Written;
+
+pub(crate) fn admit(a: &[u8])
+    requires { ⌜ 36 ≤ length (now a) ⌝ }
+{
+    number8(table_at(a, 0).broken_rule());
+}
+
+pub(crate) fn step(a: &[u8])
+    requires { ⌜ 61 ≤ length (now a) ⌝ }
+{
+    print_answer(state_in(a).step(table_at(a, 0), a[56], u32_at(a, 57)));
+}
+
+pub(crate) fn advance(a: &[u8])
+    requires { ⌜ 60 ≤ length (now a) ⌝ }
+{
+    let state = state_in(a);
+    let table = table_at(a, 0);
+    print_answer(gateway::advanced(state, table, a[56], a[57], a[58], a[59]));
+}
+
+fn print_answer(answer: Answer) {
+    number8(answer.number);
+    number8(answer.rule);
+    text::state(answer.state);
+}
+
+pub(crate) fn read(file: &[u8]) {
+    let refusal = stepfile::refused(file);
+    number8(refusal.number);
+    number8(refusal.rule);
+    text::table(stepfile::table(file));
+    text::bytes(stepfile::records(file));
+}
+
+pub(crate) fn judge(file: &[u8]) {
+    let verdict = verdict::judge(file);
+    number8(verdict.number);
+    number8(verdict.rule);
+    number(verdict.index);
+    text::state(verdict.state);
+}
+
+pub(crate) fn line(file: &[u8], out: &mut [u8]) {
+    let laid = verdict::line(file, out);
+    number8(laid.number);
+    number(laid.length);
+    text::bytes(out);
+}
+
+pub(crate) fn join(a: &[u8], part: &[u8], buffer: &mut [u8])
+    requires { ⌜ 16 ≤ length (now a) ⌝ }
+{
+    let joined = transfer::join(buffer, usize_at(a, 0), usize_at(a, 8), part);
+    number8(joined.number);
+    number(joined.held);
+    text::bytes(buffer);
+}
+
+pub(crate) fn write(a: &[u8], codes: &[u8], out: &mut [u8])
+    requires { ⌜ (37 ≤ length (now a)) × (length (now a) ≤ 66000) ⌝ }
+{
+    let mut amounts = [0u32; 16491];
+    let count = read_amounts(a, &mut amounts);
+    print_written(stepfile::write::write(wish_in(a), codes, &amounts[..count], out));
+    text::bytes(out);
+}
+
+// The first byte is 0 for the wish for none.
+fn wish_in(a: &[u8]) -> Wish
+    requires { ⌜ 37 ≤ length (now a) ⌝ }
+{
+    if a[0] == 0 {
+        return Wish::NoTable;
+    }
+    Wish::Given(table_at(a, 1))
+}
+
+fn print_written(written: Written) {
+    number8(written.number);
+    number8(written.rule);
+    number(written.index);
+    number(written.length);
+}
