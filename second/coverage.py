@@ -1,0 +1,270 @@
+"""The coverage of a comparison: in how many cases each thing that can come up did, as tables."""
+
+from collections import Counter
+from typing import Dict, NamedTuple, Sequence, Set
+
+from files import NO_ROOM, fours, judged, line, read, record
+from rules import (
+    ALLOWED, ASK_CLUTCH, ENGINE_PHASES, ERROR, GOOD, NOT_ADMITTED, NOT_ALLOWED, ORDERS, PAST_CLOCK, PAST_PHASE_LIMIT,
+    PAST_STAGE_LIMIT, PHASES, REQUESTS, SENT, START, SYNC, TAKE, TICK, TOO_EARLY, TOO_LATE, WORKING, ZERO_TORQUE,
+    earliest_clock, latest_clocks, slacks,
+)
+
+# No walk takes too late: rules 2 and 3 see to that. No file holds ticks enough to pass the last clock.
+NEVER_IN_A_FILE = {TOO_LATE, PAST_CLOCK}
+
+STAGE_NAMES = "none", "sent", "working", "good", "failed", "waiting"
+GIVEN_NAMES = tuple(f"({name})" for name in STAGE_NAMES)
+ORDER_NAMES = tuple(order.name for order in ORDERS)
+ALL_RULES = set(range(1, 16))
+OTHER = "other"
+CODES = (*ALLOWED, OTHER)
+
+
+def reachable(phase):
+    """The stages that walks reach in a phase."""
+    if phase not in PHASES:
+        return {"none"}
+    return {"sent", "working", "good", "waiting" if phase in ENGINE_PHASES else "failed"}
+
+
+def step_numbers(code):
+    """The numbers that a step can give on any state and table."""
+    if code == OTHER:
+        return {4, 5}
+    own = {8} if code in REQUESTS else {TAKE: {10}, ASK_CLUTCH: {9}, TICK: {11, 12, 13}}.get(code, set())
+    return {0, 4, 6, 7} | own
+
+
+def record_numbers(code):
+    """The numbers that a record can give in a file that is read; its states are all listed, so a tick gives no 7."""
+    return step_numbers(code) - {NOT_ADMITTED} - NEVER_IN_A_FILE - ({NOT_ALLOWED} if code == TICK else set())
+
+
+def numbers_by_code(numbers):
+    """The rows of a grid of numbers and codes."""
+    rows = {number: {code for code in CODES if number in numbers(code)} for number in range(14)}
+    return {number: codes for number, codes in rows.items() if codes}
+
+
+def limits_by_order(never=()):
+    """The rows of a grid of limits and orders; only engines have EX and DE."""
+    rows = {}
+    for limit in ("channel, sent", "channel, good", "device", "phase", "EX", "DE", "last clock"):
+        for row in (f"{limit}: kept", f"{limit}: passed"):
+            if row not in never:
+                rows[row] = {SYNC.name, ZERO_TORQUE.name} if limit in ("EX", "DE") else set(ORDER_NAMES)
+    return rows
+
+
+class Grid(NamedTuple):
+    """A table of counts: its columns and, for each row, the columns in which something can come up."""
+
+    title: str
+    columns: Sequence
+    rows: Dict[object, Set]
+
+
+GRIDS = {
+    "numbers": Grid("numbers that each function gave", range(17), {
+        "admit": {0, 4},
+        "step": {0, *range(4, 14)},
+        "advance": {0, *range(4, 14)},
+        "read": {*range(5)},
+        "judge": {*range(14)} - NEVER_IN_A_FILE,
+        "line accepted": {0, 15},
+        "line refused": {0, 15},
+        "line unread": {0, 15},
+        "join": {0, 14, 15, 16},
+        "join, held": {15},
+        "write": {0, *range(2, 7), 15},
+    }),
+    "rules": Grid("rules that each function gave, 0 for an admitted table, and the nearest tables", range(16), {
+        "admit": {0} | ALL_RULES,
+        "step": ALL_RULES,
+        "advance": ALL_RULES,
+        "read": ALL_RULES,
+        "judge": ALL_RULES,
+        "write": ALL_RULES,
+        "broken by one": ALL_RULES,
+        "just kept": ALL_RULES,
+    }),
+    "stages": Grid(
+        "phases and stages that accepted walks reached and, in brackets, that were given to step",
+        STAGE_NAMES + GIVEN_NAMES,
+        {phase: reachable(phase) | set(GIVEN_NAMES) for phase in range(ERROR + 1)},
+    ),
+    "step": Grid("numbers of step, by code", CODES, numbers_by_code(step_numbers)),
+    "advance": Grid("numbers of advance, by code", CODES, numbers_by_code(step_numbers)),
+    "judge": Grid("numbers of records in judged files, by code", CODES, numbers_by_code(record_numbers)),
+    "limits": Grid("limits just kept, or passed by one, in step and advance", ORDER_NAMES, limits_by_order()),
+    "file limits": Grid(
+        "limits just kept, or passed by one, in judged files",
+        ORDER_NAMES,
+        limits_by_order(never=("EX: passed", "last clock: kept", "last clock: passed")),
+    ),
+}
+
+
+def limit_name(refusal, stage):
+    """A limit's name, by the refusal for passing it."""
+    if refusal == PAST_STAGE_LIMIT:
+        return {SENT: "channel, sent", GOOD: "channel, good", WORKING: "device"}[stage]
+    return {PAST_PHASE_LIMIT: "phase", TOO_LATE: "EX", TOO_EARLY: "DE", PAST_CLOCK: "last clock"}[refusal]
+
+
+def limit_marks(grid, table, state, code, amount, number):
+    """The limits that an accepted step just keeps, or the one that a refused step passes by one."""
+    if state.phase not in PHASES or 0 < number < TOO_EARLY:
+        return
+    clock = state.clock + amount
+    excesses = [(refusal, clock - latest) for refusal, latest in latest_clocks(table, state, code)]
+    if code == ASK_CLUTCH:
+        excesses.append((TOO_EARLY, earliest_clock(table, state, code) - clock))
+    for refusal, excess in excesses:
+        if (number, excess) in ((0, 0), (refusal, 1)):
+            row = f"{limit_name(refusal, state.stage)}: {'passed' if number else 'kept'}"
+            yield grid, row, PHASES[state.phase].order.name
+
+
+def record_marks(name, limits, table, state, code, amount, number):
+    """The marks of a code, an amount and their number, in the grids of a function and of its limits."""
+    yield name, number, code if code in ALLOWED else OTHER
+    yield from limit_marks(limits, table, state, code, amount, number)
+
+
+def answer_marks(name, number, rule):
+    """The marks of a number and a rule."""
+    yield "numbers", name, number
+    if rule:
+        yield "rules", name, rule
+
+
+def admit_marks(rule, table):
+    """The marks of an admission."""
+    yield "numbers", "admit", NOT_ADMITTED if rule else 0
+    yield "rules", "admit", rule
+    for number, slack in enumerate(slacks(table), 1):
+        if slack == -1 and number == rule:
+            yield "rules", "broken by one", number
+        if slack == 0 and not 0 < rule < number:
+            yield "rules", "just kept", number
+
+
+def step_marks(answer, table, state, code, amount):
+    """The marks of a step."""
+    number, rule, _ = answer
+    yield from answer_marks("step", number, rule)
+    yield from record_marks("step", "limits", table, state, code, amount, number)
+    if state.phase <= ERROR and state.stage < len(GIVEN_NAMES):
+        yield "stages", state.phase, GIVEN_NAMES[state.stage]
+
+
+def advance_marks(answer, table, state, four):
+    """The marks of the running judge."""
+    number, rule, _ = answer
+    code, amount, _ = record(four)
+    yield from answer_marks("advance", number, rule)
+    yield from record_marks("advance", "limits", table, state, code, amount, number)
+
+
+def read_marks(answer, _):
+    """The marks of the reader."""
+    number, rule, _, _ = answer
+    yield from answer_marks("read", number, rule)
+
+
+def judge_marks(answer, file):
+    """The marks of the judge, and of each record that it judges."""
+    number, rule, _, _ = answer
+    yield from answer_marks("judge", number, rule)
+    _, _, table, records = read(file)
+    state = START
+    yield "stages", state.phase, STAGE_NAMES[state.stage]
+    for four, (number, after) in zip(fours(records), judged(table, records)):
+        code, amount, _ = record(four)
+        yield from record_marks("judge", "file limits", table, state, code, amount, number)
+        yield "stages", after.phase, STAGE_NAMES[after.stage]
+        state = after
+
+
+def line_marks(answer, file, _):
+    """The marks of a line."""
+    word = line(file).split()[0].decode()
+    yield "numbers", f"line {word}", answer[0]
+
+
+def join_marks(answer, held, _, __, buffer):
+    """The marks of joining."""
+    number, _, _ = answer
+    yield "numbers", "join, held" if number == NO_ROOM and held > len(buffer) else "join", number
+
+
+def write_marks(answer, *_):
+    """The marks of the writer."""
+    number, rule, *_ = answer
+    yield from answer_marks("write", number, rule)
+
+
+MARKS = {
+    "admit": admit_marks,
+    "step": step_marks,
+    "advance": advance_marks,
+    "read": read_marks,
+    "judge": judge_marks,
+    "line": line_marks,
+    "join": join_marks,
+    "write": write_marks,
+    "bad": lambda _: (),
+}
+
+
+def marks(worked):
+    """What a case that is worked out covers, as cells: a grid's name, a row and a column."""
+    return set(MARKS[worked.name](worked.answer, *worked.parts))
+
+
+def possible_cells():
+    """The cells in which something can come up."""
+    for name, grid in GRIDS.items():
+        for row, columns in grid.rows.items():
+            yield from ((name, row, column) for column in columns)
+
+
+class Coverage:
+    """The count of cases for each cell."""
+
+    def __init__(self):
+        self.counts = Counter()
+
+    def add(self, worked):
+        """Count a case in."""
+        self.counts.update(marks(worked))
+
+    def met(self):
+        """How many of the possible cells came up."""
+        return sum(self.counts[cell] > 0 for cell in possible_cells())
+
+    def faults(self):
+        """What did not come up though it can, and what did though it can't, as text."""
+        possible = set(possible_cells())
+        for said, cells in (("missing", possible - self.counts.keys()), ("impossible", self.counts.keys() - possible)):
+            for name, row, column in sorted(cells, key=str):
+                yield f"{said}: {GRIDS[name].title}: row {row}, column {column}"
+
+    def tables(self):
+        """The grids as lines of text; a dot stands where nothing can come up."""
+        for name, grid in GRIDS.items():
+            label = max(len(str(row)) for row in grid.rows)
+            widths = [max(6, len(str(column)) + 1) for column in grid.columns]
+            yield f"{grid.title}:"
+            yield aligned("", label, grid.columns, widths)
+            for row, possible in grid.rows.items():
+                cells = [self.counts[name, row, column] if column in possible else "." for column in grid.columns]
+                yield aligned(row, label, cells, widths)
+            yield ""
+
+
+def aligned(row, label, cells, widths):
+    """A line of a table."""
+    return f"{row:<{label}}" + "".join(f"{cell:>{width}}" for cell, width in zip(cells, widths))

@@ -1,0 +1,213 @@
+"""Cases of admit, step and advance: tables, and single steps on states that no walk need reach."""
+
+from itertools import product
+
+from corpus import case_of
+from records import (
+    EXTREME_AMOUNTS, LISTED, any_record, bad_amount, bad_records, good_amount, packed_steps, tick_amount,
+    unlisted_code,
+)
+from rules import (
+    ALLOWED, ASK_CLUTCH, AT_REST, BOXES, DEFAULT, ENGINE_PHASES, ERROR, GOOD, LAST_CLOCK, LONGEST_TICK,
+    PAST_PHASE_LIMIT, PAST_STAGE_LIMIT, PHASES, REQUESTS, STAGES, START, TAKE, TICK, TOO_LATE, WAITING, State, Table,
+    earliest_clock, latest_clocks,
+)
+from tables import LARGEST_ENTRY, admitted_table, any_table, broken_table, edge_tables, good_table
+
+BESIDE = -1, 0, 1
+
+
+def both(table, state, code, amount):
+    """A step as such and as the running judge's."""
+    yield case_of("step", table, state, code, amount)
+    yield case_of("advance", table, state, packed_steps([(code, amount)]))
+
+
+def any_time(chance):
+    """A time near 0, near the last clock or anywhere."""
+    near = chance.randint(0, 2_000)
+    return chance.choice((near, LAST_CLOCK - near, chance.randint(0, LAST_CLOCK)))
+
+
+def free_state(chance, **named):
+    """A listed state with its times near each other or anywhere; the named fields are as named."""
+    clock = any_time(chance)
+
+    def time():
+        near = clock + chance.randint(-400, 400)
+        return near if 0 <= near <= LAST_CLOCK and chance.random() < 0.8 else any_time(chance)
+
+    state = State(
+        clock=clock,
+        box=chance.choice(BOXES),
+        phase=chance.randint(AT_REST, ERROR),
+        phase_time=time(),
+        stage=chance.choice(STAGES),
+        stage_time=time(),
+        request_time=time(),
+        failed_phase=chance.choice((0, chance.randint(0, ERROR), chance.randint(0, 255))),
+    )
+    return state._replace(**named)
+
+
+def allowing(chance, code, **named):
+    """A state whose phase and stage allow the step; the named fields are as named."""
+    phases, stages = ALLOWED[code]
+    fields = {"phase": chance.choice(sorted(phases)), "stage": chance.choice(sorted(stages)), **named}
+    return free_state(chance, **fields)
+
+
+# The least numbers that are not listed.
+LEAST_UNLISTED = {"phase": ERROR + 1, "stage": len(STAGES), "box": len(BOXES)}
+
+
+def unlisted(chance, state):
+    """The state with a number in one of its fields that is not listed."""
+    field, least = chance.choice(list(LEAST_UNLISTED.items()))
+    return state._replace(**{field: chance.randint(least, 255)})
+
+
+def limits(table, phase, stage, code):
+    """The limits of a step in a phase and stage, by the refusal for passing them."""
+    return dict(latest_clocks(table, START._replace(phase=phase, stage=stage), code))
+
+
+def clock_from(chance, least):
+    """A clock that is no smaller than the least: that one, the last or any."""
+    return chance.choice((least, LAST_CLOCK, chance.randint(least, LAST_CLOCK)))
+
+
+def aimed_tick(chance, table, phase, stage, past_stage, past_phase):
+    """A state, and a tick to so far past the channel's or device's limit and so far past the phase's."""
+    found = limits(table, phase, stage, TICK)
+    stage_limit, phase_limit = found.get(PAST_STAGE_LIMIT, 0), found[PAST_PHASE_LIMIT]
+    amount = tick_amount(chance)
+    clock = clock_from(chance, max(amount, past_stage + stage_limit, past_phase + phase_limit))
+    state = free_state(
+        chance,
+        clock=clock - amount,
+        phase=phase,
+        phase_time=min(clock - past_phase - phase_limit, LAST_CLOCK),
+        stage=stage,
+        stage_time=min(clock - past_stage - stage_limit, LAST_CLOCK),
+    )
+    return state, amount
+
+
+def extreme_entries(chance):
+    """The default, and admitted tables with one entry at an end of its range or where sums of 16 bits would wrap."""
+    yield case_of("admit", DEFAULT)
+    for entry, value in product(Table._fields, (0, 1, (LARGEST_ENTRY + 1) // 2, LARGEST_ENTRY)):
+        yield case_of("admit", admitted_table(chance)._replace(**{entry: value}))
+
+
+def rules_at_their_edge(chance):
+    """Tables that break each rule first and by one, with their neighbours, and steps under the broken ones."""
+    for rule, _ in product(range(1, 16), range(5)):
+        neighbours = edge_tables(chance, rule)
+        for table in neighbours:
+            yield case_of("admit", table)
+        code = chance.choice(LISTED)
+        yield from both(neighbours[0], free_state(chance), code, good_amount(chance, code))
+
+
+def every_phase_and_stage(chance):
+    """Every listed code in every phase and stage."""
+    for phase, stage, code in product(range(ERROR + 1), STAGES, LISTED):
+        state = free_state(chance, phase=phase, stage=stage)
+        yield case_of("step", good_table(chance), state, code, good_amount(chance, code))
+
+
+def every_box(chance):
+    """Every request at rest in every stage, with the box on either side."""
+    for code, box, stage in product(REQUESTS, BOXES, STAGES):
+        yield from both(good_table(chance), free_state(chance, box=box, phase=AT_REST, stage=stage), code, 0)
+
+
+def every_amount(chance):
+    """Every listed code on states that allow it, with amounts at the ends of what it may have."""
+    for code, amount in product(LISTED, EXTREME_AMOUNTS):
+        yield case_of("step", good_table(chance), allowing(chance, code), code, amount)
+
+
+def every_unlisted_field(chance):
+    """Every listed code on states that would allow it, but are not listed; the tick would pass the last clock too."""
+    for code, (field, least) in product(LISTED, LEAST_UNLISTED.items()):
+        for value in (least, chance.randint(least, 255), 255):
+            state = allowing(chance, code, clock=LAST_CLOCK, **{field: value})
+            yield from both(good_table(chance), state, code, good_amount(chance, code))
+
+
+def ticks_beside_limits(chance):
+    """Ticks to one below, to and to one past the limits of every phase and stage, in every pairing."""
+    for phase, stage, past_phase in product(PHASES, STAGES, BESIDE):
+        table = good_table(chance)
+        for past_stage in BESIDE if PAST_STAGE_LIMIT in limits(table, phase, stage, TICK) else (0,):
+            state, amount = aimed_tick(chance, table, phase, stage, past_stage, past_phase)
+            yield from both(table, state, TICK, amount)
+
+
+def ticks_beside_the_last_clock(chance):
+    """Ticks to the last clock and past it in every phase, within the limits and past them."""
+    for phase, time in product(range(ERROR + 1), (LAST_CLOCK - 1, 0)):
+        state = free_state(chance, clock=LAST_CLOCK - 1, phase=phase, phase_time=time, stage_time=time)
+        for amount in (1, 2, LONGEST_TICK):
+            yield from both(good_table(chance), state, TICK, amount)
+
+
+def engines_beside_limits(chance):
+    """Taking one before, at and one past EX, and asking for the clutch likewise beside DE."""
+    for phase, past, _ in product(sorted(ENGINE_PHASES), BESIDE, range(4)):
+        table = good_table(chance)
+        expiry = limits(table, phase, GOOD, TAKE)[TOO_LATE]
+        earliest = earliest_clock(table, START._replace(phase=phase), ASK_CLUTCH)
+        for code, stage, limit in ((TAKE, GOOD, expiry), (ASK_CLUTCH, WAITING, earliest)):
+            clock = clock_from(chance, past + limit)
+            state = free_state(chance, clock=clock, phase=phase, stage=stage, phase_time=clock - past - limit)
+            yield from both(table, state, code, 0)
+
+
+def refusals_in_order(chance):
+    """Every listed code with table, code, amount and state good or bad, in every pairing."""
+    for code, bad_table, bad_code, wrong_amount, bad_state in product(LISTED, *[(False, True)] * 4):
+        table = broken_table(chance) if bad_table else good_table(chance)
+        given = unlisted_code(chance) if bad_code else code
+        amount = bad_amount(chance, code) if wrong_amount else good_amount(chance, code)
+        state = free_state(chance)
+        if bad_state:
+            state = unlisted(chance, state)
+        yield case_of("step", table, state, given, amount)
+        for four in bad_records(chance, code) if wrong_amount else [packed_steps([(code, amount)])]:
+            yield case_of("advance", table, state, bytes((given,)) + four[1:])
+
+
+def demanded(chance):
+    """The cases that the coverage demands of these functions."""
+    yield from extreme_entries(chance)
+    yield from rules_at_their_edge(chance)
+    yield from every_phase_and_stage(chance)
+    yield from every_box(chance)
+    yield from every_amount(chance)
+    yield from every_unlisted_field(chance)
+    yield from ticks_beside_limits(chance)
+    yield from ticks_beside_the_last_clock(chance)
+    yield from engines_beside_limits(chance)
+    yield from refusals_in_order(chance)
+
+
+def draw(chance):
+    """A table, two ticks beside limits and two steps, by chance."""
+    yield case_of("admit", any_table(chance))
+    table = any_table(chance) if chance.random() < 0.1 else good_table(chance)
+    phase, stage = chance.choice(list(PHASES)), chance.choice(STAGES)
+    state, amount = aimed_tick(chance, table, phase, stage, chance.randint(-2, 2), chance.randint(-2, 2))
+    yield from both(table, state, TICK, amount)
+    code = chance.choice(LISTED)
+    state = allowing(chance, code) if chance.random() < 0.7 else free_state(chance)
+    if chance.random() < 0.1:
+        state = unlisted(chance, state)
+    yield case_of("advance", table, state, any_record(chance, code))
+    if chance.random() < 0.1:
+        code = chance.randint(0, 255)
+    amount = bad_amount(chance, code) if chance.random() < 0.1 else good_amount(chance, code)
+    yield case_of("step", table, state, code, amount)

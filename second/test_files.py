@@ -1,0 +1,222 @@
+"""Tests of files, lines, writing, joining and the corpus, over the known runs."""
+
+import unittest
+
+from corpus import Case, case_of, cases_in, packed, parts_of, worked
+from files import advance, fours, join, judge, lay_line, line, read, write
+from rules import DEFAULT, START, State
+
+K1 = "1 t5 4 t100 5 t5 8 4 t300 5 8 11"
+
+
+def lists(text):
+    """The codes and the amounts of a run, where tN is a tick."""
+    words = [(12, int(word[1:])) if word[0] == "t" else (int(word), 0) for word in text.split()]
+    return bytes(code for code, _ in words), [amount for _, amount in words]
+
+
+def written(text, table=None):
+    """The file of a run."""
+    codes, amounts = lists(text)
+    number, _, _, length, buffer = write(table, codes, amounts, bytes(65_536))
+    assert number == 0
+    return buffer[:length]
+
+
+class KnownRuns(unittest.TestCase):
+    def assert_run(self, text, number, count, **fields):
+        """The judge's number and count of a run, and fields of its state; the running judge has to agree."""
+        file = written(text)
+        got, rule, accepted, state = judge(file)
+        self.assertEqual((got, rule, accepted), (number, 0, count))
+        self.assertEqual({name: getattr(state, name) for name in fields}, fields)
+        running, numbers = START, [0]
+        for four in fours(read(file)[3]):
+            if numbers[-1] == 0:
+                number, _, running = advance(DEFAULT, running, four)
+                numbers.append(number)
+        self.assertEqual((numbers[-1], running), (got, state))
+
+    def test_k1(self):
+        self.assert_run(K1, 0, 12, clock=410, phase=0, box=1, stage=0, request_time=0, failed_phase=0)
+
+    def test_k2(self):
+        self.assert_run("", 0, 0, **START._asdict())
+
+    def test_k3(self):
+        self.assert_run("1 t6", 12, 1, clock=0, phase=1)
+        self.assert_run("1 t5", 0, 2, clock=5, phase=1)
+
+    def test_k4(self):
+        self.assert_run("1 t5 4 t101", 12, 3, clock=5, phase=1, stage=2)
+        self.assert_run("1 t5 4 t100", 0, 4, clock=105)
+
+    def test_k5(self):
+        self.assert_run("1 4 7 t150 9", 9, 4, clock=150, phase=1, stage=5)
+
+    def test_k6(self):
+        self.assert_run("1 4 7 t151 9", 0, 5, clock=151, phase=2, phase_time=151, stage=1, stage_time=151)
+
+    def test_k7(self):
+        self.assert_run("1 4 7 t156", 11, 3, clock=0, phase=1)
+        self.assert_run("1 4 7 t155", 0, 4, clock=155, phase=1)
+
+    def test_k8(self):
+        self.assert_run("2", 8, 0, **START._asdict())
+
+    def test_k9(self):
+        self.assert_run("1 1", 7, 1, phase=1)
+
+    def test_k10(self):
+        self.assert_run("1 4 6", 7, 2, phase=1, stage=2)
+
+    def test_k11(self):
+        self.assert_run(f"{K1} 3 4 5 8 4 6 10 11", 7, 19, clock=410, phase=23, failed_phase=19, box=1, request_time=410)
+
+    def test_only_ticks_follow_an_error(self):
+        self.assert_run(f"{K1} 3 4 5 8 4 6 10 t9 1", 7, 20, clock=419, phase=23)
+
+
+class Lines(unittest.TestCase):
+    def test_samples(self):
+        self.assertEqual(len(written(K1)), 60)
+        self.assertEqual(line(written(K1)), b"accepted 12 0 410 0 1\n")
+        self.assertEqual(line(written("1 4 7 t150 9")), b"refused 4 9 150 1 0\n")
+        self.assertEqual(line(b""), b"unread 0 1 0 0 0\n")
+
+    def test_room(self):
+        file, text = written(K1), b"accepted 12 0 410 0 1\n"
+        self.assertEqual(lay_line(file, b"x" * 21), (15, 0, b"x" * 21))
+        self.assertEqual(lay_line(file, b"x" * 22), (0, 22, text))
+        self.assertEqual(lay_line(file, b"x" * 24), (0, 22, text + b"xx"))
+
+
+class Reading(unittest.TestCase):
+    def numbers(self, *given):
+        """The reader's number and rule of each; what is refused has no records."""
+        answers = [read(file) for file in given]
+        self.assertTrue(all(number == 0 or records == b"" for number, _, _, records in answers))
+        return [(number, rule) for number, rule, _, _ in answers]
+
+    def test_header_and_length(self):
+        file = written(K1)
+        self.assertEqual(self.numbers(file, b"", file[:11], file[:12], file[:-1], file + b"\0"),
+                         [(0, 0), (1, 0), (1, 0), (3, 0), (3, 0), (3, 0)])
+        changed = [file[:place] + bytes((file[place] ^ 128,)) + file[place + 1:] for place in range(12)]
+        self.assertEqual(self.numbers(*changed), [(2, 0)] * 8 + [(3, 0)] + [(2, 0)] * 3)
+
+    def test_most_records(self):
+        self.assertEqual(self.numbers(written("t1 " * 16_372)), [(0, 0)])
+        header = written("")[:8]
+        given = [header + (16_373).to_bytes(4, "little") + bytes(4 * 16_373), bytes(65_537)]
+        self.assertEqual(self.numbers(*given, header + (16_372).to_bytes(4, "little")), [(2, 0), (2, 0), (3, 0)])
+
+    def test_table(self):
+        table = DEFAULT._replace(ChangeDL=2000)
+        file = written(K1, table)
+        self.assertEqual(read(file), (0, 0, table, written(K1)[12:]))
+        rule_14 = file[:46] + (1404).to_bytes(2, "little") + file[48:]
+        self.assertEqual(read(rule_14), (4, 14, DEFAULT._replace(ChangeDL=1404), b""))
+        self.assertEqual(judge(rule_14), (4, 14, 0, START))
+        self.assertEqual(read(rule_14[:48])[:3], (3, 0, DEFAULT._replace(ChangeDL=1404)))
+        self.assertEqual(read(rule_14[:47])[:3], (3, 0, DEFAULT))
+
+    def test_records(self):
+        def refused(four):
+            return judge(written("t7 t8")[:16] + four)[:3] + (advance(DEFAULT, START, four)[0],)
+
+        self.assertEqual(refused(bytes((13, 9, 0, 0))), (5, 0, 1, 5))
+        self.assertEqual(refused(bytes((0, 0, 0, 0))), (5, 0, 1, 5))
+        self.assertEqual(refused(bytes((12, 1, 1, 0))), (6, 0, 1, 6))
+        self.assertEqual(refused(bytes((12, 0, 0, 0))), (6, 0, 1, 6))
+        self.assertEqual(refused(bytes((1, 0, 0, 1))), (6, 0, 1, 6))
+
+
+class Writing(unittest.TestCase):
+    def refused(self, *given):
+        """Number, rule and index of a writing that is refused, into a buffer with room."""
+        number, rule, index, length, buffer = write(*given, b"x" * 65_540)
+        self.assertEqual((length, buffer), (0, b"x" * 65_540))
+        return number, rule, index
+
+    def test_round_trip(self):
+        for table in (None, DEFAULT, DEFAULT._replace(ChangeDL=1405)):
+            codes, amounts = lists(K1)
+            number, rule, index, length, buffer = write(table, codes, amounts, b"x" * 200)
+            self.assertEqual((number, rule, index, length), (0, 0, 0, 60 if table is None else 96))
+            self.assertEqual(buffer[length:], b"x" * (200 - length))
+            _, _, got, records = read(buffer[:length])
+            self.assertEqual(got, table or DEFAULT)
+            self.assertEqual([tuple(four) for four in fours(records)],
+                             [(code, 0, amount % 256, amount // 256) for code, amount in zip(codes, amounts)])
+
+    def test_room(self):
+        self.assertEqual(write(None, b"\x01", [0], b"x" * 15), (15, 0, 0, 0, b"x" * 15))
+        self.assertEqual(write(None, b"\x01", [0], b"x" * 16)[:4], (0, 0, 0, 16))
+
+    def test_refusals_in_order(self):
+        broken, many = DEFAULT._replace(ChangeDL=1404), 16_373
+        self.assertEqual(self.refused(broken, bytes(many), [0] * (many + 1)), (3, 0, 0))
+        self.assertEqual(self.refused(broken, bytes(many), [0] * many), (2, 0, 0))
+        self.assertEqual(self.refused(broken, bytes(3), [0] * 3), (4, 14, 0))
+        self.assertEqual(self.refused(DEFAULT, b"\x01\x00\x0d", [0] * 3), (5, 0, 1))
+        self.assertEqual(self.refused(None, b"\x01\x0c\x00", [0] * 3), (6, 0, 1))
+        self.assertEqual(self.refused(None, b"\x01\x0c", [0, 65_536]), (6, 0, 1))
+
+
+class Joining(unittest.TestCase):
+    def test_parts_of_one_file(self):
+        buffer, held = b"x" * 10, 0
+        for offset, part, now in ((0, b"abc", 3), (3, b"de", 5), (1, b"bcdefg", 7), (2, b"cd", 7), (7, b"", 7)):
+            number, held, buffer = join(buffer, held, offset, part)
+            self.assertEqual((number, held, buffer), (0, now, b"abcdefg"[:now] + b"x" * (10 - now)))
+
+    def test_refusals_in_order(self):
+        buffer = b"abcxx"
+        self.assertEqual(join(buffer, 6, 7, b""), (15, 6, buffer))
+        self.assertEqual(join(buffer, 3, 4, b"xyz"), (14, 3, buffer))
+        self.assertEqual(join(buffer, 3, 2**64 - 1, b"xyz"), (14, 3, buffer))
+        self.assertEqual(join(buffer, 3, 2, b"Cdef"), (15, 3, buffer))
+        self.assertEqual(join(buffer, 3, 2, b"Cde"), (16, 3, buffer))
+        self.assertEqual(join(buffer, 3, 2, b"cde"), (0, 5, b"abcde"))
+
+
+class Corpus(unittest.TestCase):
+    def test_bytes_and_parts(self):
+        state = State(1, 2, 3, 4, 5, 6, 7, 8)
+        given = [
+            ("admit", DEFAULT),
+            ("step", DEFAULT, state, 9, 10),
+            ("advance", DEFAULT, state, b"1234"),
+            ("read", b"file"),
+            ("judge", b"file"),
+            ("line", b"file", b"buffer"),
+            ("join", 1, 2, b"part", b"buffer"),
+            ("write", 1, DEFAULT, [3, 4], b"codes", b"buffer"),
+        ]
+        cases = [case_of(*case) for case in given]
+        self.assertEqual([len(case.a) for case in cases], [36, 61, 60, 0, 0, 0, 16, 45])
+        self.assertEqual([parts_of(case) for case in cases], [list(case[1:]) for case in given])
+        self.assertEqual(list(cases_in(b"".join(map(packed, cases)))), cases)
+
+    def test_lines(self):
+        lines = [
+            (case_of("admit", DEFAULT), "admit 0"),
+            (case_of("advance", DEFAULT, START, b"\x02\0\0\0"), "advance 8 0 0 0 0 0 0 0 0 0"),
+            (case_of("read", b""), f"read 1 0 {' '.join(map(str, DEFAULT))} -"),
+            (case_of("judge", written("1 t5")), "judge 0 0 2 5 0 1 0 1 0 0 0"),
+            (case_of("line", b"", b"\xab"), "line 15 0 ab"),
+            (case_of("join", 0, 0, b"\x01", b"\xff\xff"), "join 0 1 01ff"),
+            (case_of("write", 0, DEFAULT, [], b"", b""), "write 15 0 0 0 -"),
+            (Case(1, bytes(35)), "bad"),
+            (Case(8, bytes(38)), "bad"),
+            (Case(5, b"", b"", b"x"), "bad"),
+            (None, "bad"),
+        ]
+        self.assertEqual([worked(case).line() for case, _ in lines], [text for _, text in lines])
+
+    def test_what_ends_a_run(self):
+        good = case_of("admit", DEFAULT)
+        too_long = bytes((4, 0, 0, 0, 0)) + (66_001).to_bytes(4, "little") + bytes(4 + 66_001)
+        for end in (b"\x01", packed(Case(9)), packed(Case(0)), packed(good)[:-1], too_long):
+            self.assertEqual(list(cases_in(packed(good) + end)), [good, None])

@@ -1,0 +1,132 @@
+"""Tests of the rules: the limit table, the phase table and single steps."""
+
+import unittest
+
+from rules import (
+    DEFAULT, ENGINE_PHASES, LAST_CLOCK, ORDERS, PHASES, START, State, Table, broken_rule, route_sums, step,
+)
+
+
+class TheTable(unittest.TestCase):
+    def test_route_sums_of_the_default(self):
+        self.assertEqual(route_sums(DEFAULT), (905, 905, 1405, 1255))
+
+    def test_default_is_admitted(self):
+        self.assertEqual(broken_rule(DEFAULT), 0)
+
+    def test_k12(self):
+        self.assertEqual(broken_rule(DEFAULT._replace(ChangeDL=1404)), 14)
+        self.assertEqual(broken_rule(DEFAULT._replace(ChangeDL=1405)), 0)
+
+    def test_each_rule_broken_by_one_and_just_kept(self):
+        edges = [
+            (1, "Gear_Release_DL", 0, 1),
+            (2, "Sync_EX", 109, 110),
+            (3, "Zero_EX", 209, 210),
+            (4, "OpenClutch_DL", 160, 161),
+            (5, "CloseClutch_DL", 160, 161),
+            (6, "SetGear_DL", 310, 311),
+            (7, "Release_DL", 210, 211),
+            (8, "Sync_DE", 150, 151),
+            (9, "Zero_DE", 250, 251),
+            (10, "Sync_DL", 150, 151),
+            (11, "Zero_DL", 250, 251),
+            (14, "ChangeDL", 1404, 1405),
+        ]
+        for rule, name, broken, kept in edges:
+            self.assertEqual(broken_rule(DEFAULT._replace(**{name: broken})), rule)
+            self.assertEqual(broken_rule(DEFAULT._replace(**{name: kept})), 0)
+
+    def test_route_rules_in_their_order(self):
+        long_zero = DEFAULT._replace(Zero_DL=1000)
+        self.assertEqual(route_sums(long_zero), (905, 1650, 1405, 2000))
+        given = [broken_rule(long_zero._replace(ChangeDL=most)) for most in (904, 905, 1649, 1650, 1999, 2000)]
+        self.assertEqual(given, [12, 13, 13, 15, 15, 0])
+
+    def test_sums_do_not_wrap(self):
+        self.assertEqual(broken_rule(DEFAULT._replace(Channel_DL=32_768)), 2)
+        self.assertEqual(broken_rule(DEFAULT._replace(Sync_DL=65_535)), 12)
+
+
+class ThePhases(unittest.TestCase):
+    def test_numbers(self):
+        self.assertEqual(list(PHASES), list(range(1, 22)))
+        self.assertEqual(ENGINE_PHASES, {1, 6, 10, 17})
+
+    def test_limits_by_order(self):
+        devices = {order.name: Table._fields.index(order.device_limit) for order in ORDERS}
+        phases = {order.name: Table._fields.index(order.phase_limit) for order in ORDERS}
+        self.assertEqual(devices, {"sync": 1, "zero torque": 2, "open": 3, "close": 4, "set": 5, "release": 6})
+        self.assertEqual(phases, {"sync": 9, "zero torque": 10, "open": 13, "set": 14, "release": 15, "close": 16})
+
+
+class SingleSteps(unittest.TestCase):
+    def number(self, state, code, amount=0, table=DEFAULT):
+        """The number of a step; one that is refused has to hand its state back."""
+        number, _, after = step(table, state, code, amount)
+        self.assertTrue(number == 0 or after == state)
+        return number
+
+    def test_k13(self):
+        good = State(phase=1, stage=3)
+        self.assertEqual(self.number(good._replace(clock=150), 8), 0)
+        self.assertEqual(self.number(good._replace(clock=151), 8), 10)
+
+    def test_table_comes_first_and_gives_its_rule(self):
+        broken = DEFAULT._replace(ChangeDL=1404)
+        wild = State(phase=99)
+        self.assertEqual(step(broken, wild, 99, 99), (4, 14, wild))
+
+    def test_code_comes_before_amount_and_amount_before_state(self):
+        wild = State(phase=99)
+        self.assertEqual(self.number(wild, 0, 1), 5)
+        self.assertEqual(self.number(wild, 13, 1), 5)
+        self.assertEqual(self.number(wild, 1, 1), 6)
+        self.assertEqual(self.number(wild, 1), 7)
+
+    def test_amounts(self):
+        ticks = [self.number(START, 12, amount) for amount in (0, 1, 65_535, 65_536, LAST_CLOCK)]
+        self.assertEqual(ticks, [6, 0, 0, 6, 6])
+        self.assertEqual([self.number(START, 1, amount) for amount in (0, 1, 65_536)], [0, 6, 6])
+
+    def test_unlisted_states(self):
+        for wild in (START._replace(phase=24), START._replace(stage=6), START._replace(box=2)):
+            self.assertEqual([self.number(wild, 1), self.number(wild._replace(clock=LAST_CLOCK), 12, 1)], [7, 7])
+        self.assertEqual(self.number(START._replace(failed_phase=255), 1), 0)
+
+    def test_any_listed_stage_at_rest_and_in_done(self):
+        self.assertEqual([self.number(START._replace(stage=stage), 1) for stage in range(7)], [0] * 6 + [7])
+        self.assertEqual([self.number(State(phase=22, stage=stage), 11) for stage in range(7)], [0] * 6 + [7])
+
+    def test_box_on_the_wrong_side(self):
+        self.assertEqual([self.number(START, code) for code in (1, 2, 3)], [0, 8, 8])
+        self.assertEqual([self.number(START._replace(box=1), code) for code in (1, 2, 3)], [8, 0, 0])
+
+    def test_error_can_be_raised_in_an_engine_phase(self):
+        failed = State(clock=9, phase=1, stage=4, request_time=2)
+        after = State(clock=9, phase=23, phase_time=9, stage_time=9, request_time=2, failed_phase=1)
+        self.assertEqual(step(DEFAULT, failed, 10, 0), (0, 0, after))
+
+    def test_box_after_done(self):
+        to_done = [phase for phase, row in PHASES.items() if row.when_taken == 22]
+        after = {phase: step(DEFAULT, State(phase=phase, stage=3), 8, 0)[2].box for phase in to_done}
+        self.assertEqual(after, {3: 1, 5: 1, 12: 1, 15: 1, 16: 1, 19: 0, 21: 0})
+
+    def test_finish_clears_request_time_and_failed_phase(self):
+        done = State(clock=7, box=1, phase=22, phase_time=5, stage_time=5, request_time=3, failed_phase=9)
+        self.assertEqual(step(DEFAULT, done, 11, 0), (0, 0, State(clock=7, box=1, phase_time=7, stage_time=7)))
+
+    def test_tick_order(self):
+        late = State(clock=LAST_CLOCK, phase=1, stage=1)
+        self.assertEqual(self.number(late, 12, 1), 13)
+        self.assertEqual(self.number(late._replace(clock=LAST_CLOCK - 1), 12, 1), 12)
+        self.assertEqual(self.number(late._replace(clock=LAST_CLOCK - 1, stage=0), 12, 1), 11)
+
+    def test_limits_past_the_last_clock_do_not_wrap(self):
+        at_the_end = {"clock": LAST_CLOCK - 1, "phase": 1, "phase_time": LAST_CLOCK, "stage_time": LAST_CLOCK}
+        self.assertEqual(self.number(State(stage=1, **at_the_end), 12, 1), 0)
+        self.assertEqual(self.number(State(stage=3, **at_the_end), 8), 0)
+        self.assertEqual(self.number(State(stage=5, **at_the_end), 9), 9)
+
+    def test_time_runs_freely_at_rest_in_done_and_in_error(self):
+        self.assertEqual([self.number(State(phase=phase, stage=2), 12, 65_535) for phase in (0, 22, 23)], [0, 0, 0])

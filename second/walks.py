@@ -1,0 +1,93 @@
+"""Walks: lists of steps, each a code and an amount, from the start through every way of a shift."""
+
+from rules import (
+    ASK_CLUTCH, DELIVER, DEVICE_FAILED, DEVICE_GOOD, DONE, ENGINE_WAITS, FINISH, FROM_NEUTRAL, GEAR_TO_GEAR,
+    LONGEST_TICK, PHASES, RAISE_ERROR, REQUESTS, START, TAKE, TICK, TO_NEUTRAL, WAITING,
+    admitted_step, earliest_clock, latest_clocks,
+)
+
+
+def ways(phase):
+    """Every way from a phase to error or, through done, to rest, as the codes of its steps."""
+    if phase == DONE:
+        return [(FINISH,)]
+    row = PHASES[phase]
+    found = [(DELIVER, DEVICE_GOOD, TAKE, *rest) for rest in ways(row.when_taken)]
+    if row.when_asked:
+        return found + [(DELIVER, ENGINE_WAITS, ASK_CLUTCH, *rest) for rest in ways(row.when_asked)]
+    return found + [(DELIVER, DEVICE_FAILED, RAISE_ERROR)]
+
+
+# The shifts that each request can lead to, and those of them that end at rest.
+SHIFTS = {code: [(code, *way) for way in ways(request.phase)] for code, request in REQUESTS.items()}
+FINISHED = {code: [shift for shift in shifts if shift[-1] == FINISH] for code, shifts in SHIFTS.items()}
+
+
+def lead(chance, request):
+    """The codes that bring the box from the start to the side that the request needs."""
+    return () if request == FROM_NEUTRAL else chance.choice(FINISHED[FROM_NEUTRAL])
+
+
+def pause_before(table, state, code):
+    """The least and the most that can be ticked in a state before the step."""
+    least = max(0, earliest_clock(table, state, code) - state.clock)
+    most = min(latest for _, latest in latest_clocks(table, state, TICK)) - state.clock
+    return least, min(most, LONGEST_TICK)
+
+
+def timed(table, codes, pace):
+    """A walk: the codes with ticks before them; the pace, such as min or max, picks each of the least and the most."""
+    steps, state = [], START
+    for code in codes:
+        pause = pace(*pause_before(table, state, code))
+        for step in [(TICK, pause), (code, 0)] if pause else [(code, 0)]:
+            steps.append(step)
+            _, state = admitted_step(table, state, *step)
+    return steps
+
+
+def mixed(chance):
+    """A pace by chance, often at one of the ends or beside it."""
+
+    def pace(least, most):
+        return chance.choice((least, min(least + 1, most), chance.randint(least, most), max(most - 1, least), most))
+
+    return pace
+
+
+def states(table, steps):
+    """The states of a walk: the start state, and the one after each step."""
+    found = [START]
+    for step in steps:
+        _, state = admitted_step(table, found[-1], *step)
+        found.append(state)
+    return found
+
+
+def edges(table, state):
+    """Steps that just keep a limit of the state, and steps that pass it by one."""
+    for _, latest in latest_clocks(table, state, TICK):
+        for amount in (latest - state.clock, latest - state.clock + 1):
+            if 1 <= amount <= LONGEST_TICK:
+                yield [(TICK, amount)]
+    if state.stage == WAITING:
+        least, _ = pause_before(table, state, ASK_CLUTCH)
+        for amount in (least, least - 1):
+            if amount >= 1:
+                yield [(TICK, amount), (ASK_CLUTCH, 0)]
+
+
+def any_walk(chance, table):
+    """A walk through a few shifts, sometimes broken off, sometimes with a tick at its end that may be refused."""
+    codes, request = (), FROM_NEUTRAL
+    while request:
+        shift = chance.choice((FINISHED if chance.random() < 0.7 else SHIFTS)[request])
+        codes += shift
+        next_requests = (FROM_NEUTRAL,) if request == TO_NEUTRAL else (GEAR_TO_GEAR, TO_NEUTRAL)
+        request = chance.choice(next_requests) if shift[-1] == FINISH and chance.random() < 0.6 else None
+    steps = timed(table, codes, mixed(chance))
+    if chance.random() < 0.3:
+        steps = steps[:chance.randint(0, len(steps))]
+    if chance.random() < 0.3:
+        steps.append((TICK, chance.randint(1, LONGEST_TICK)))
+    return steps
