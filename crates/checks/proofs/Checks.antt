@@ -3,11 +3,13 @@
 use mathlib.Core.Path.{_≡_, refl, sym, _∙_}
 use mathlib.Core.Bool.{Bool, true, false, not, _&&_, cond}
 use mathlib.Core.List.{List, [], _∷_, _++_, append-nil}
-use Prim.Native.Nat.{ℕ, zero, suc}
-use lib.Dec.{T, eqb}
-use borrow.Author.Tests.{eqb-true, eqb-false, not-true}
-use Rattle.checks.specs.Checks.{Check, first, Holds}
-use Rattle.checks.proofs.Tests.{passed, case, left, right}
+use Prim.Native.Nat.{ℕ, zero, suc, _≤_}
+use native.Mathlib.Decide.{decLt}
+use native.Mathlib.Omega.{arith}
+use lib.Dec.{T, leb, ltb, eqb}
+use borrow.Author.Tests.{eqb-false, not-true, le-leb, lt-leb, le-ltb, lt-ltb}
+use Rattle.checks.specs.Checks.{Check, _!_, first, Holds}
+use Rattle.checks.proofs.Tests.{passed, left, right}
 
 -- ---- a list that holds answers 0
 holding : (b : Bool) (m n k : ℕ) → T b → m ≡ k → cond b m n ≡ k
@@ -86,3 +88,11 @@ found-left xs ys e h = e ∙ sym (first-left xs ys (λ q. h (e ∙ q)))
 pub found-right :
     {k m : ℕ} (xs ys : List Check) → T (absent 0 xs) → k ≡ first xs → k ≡ 0 → m ≡ first ys → m ≡ first (xs ++ ys)
 found-right xs ys n e z f = f ∙ sym (first-right xs ys (first→holds 0 xs n (sym e ∙ z) .0))
+
+-- ---- a list of one check, whose failure was tested: x is past y
+pub one-check : {b : Bool} (x y k : ℕ) → b ≡ ltb y x → cond b k 0 ≡ first ((leb x y ! k) ∷ [])
+one-check {b} x y k e =
+    elim (decLt y x) [
+      | yes h ↦ rw (e, lt-ltb y x h, lt-leb x y h)
+      | no h ↦ let l : x ≤ y = omega arith in rw (e, le-ltb y x l, le-leb x y l)
+    ]

@@ -18,58 +18,58 @@ const RELEASE: u8 = 6;
 
 // The next phase when taken, by phase; 0 where there is none.
 const NEXT: [u8; 24] = [
-    0,
-    3,
-    4,
-    22,
-    5,
-    22,
-    8,
-    9,
-    10,
-    14,
-    12,
-    13,
-    22,
-    15,
-    16,
-    22,
-    22,
-    19,
-    20,
-    22,
-    21,
-    22,
-    0,
-    0,
+    0, // 0 at rest
+    3, // 1 (from neutral)
+    4, // 2
+    22, // 3
+    5, // 4
+    22, // 5
+    8, // 6 (gear to gear)
+    9, // 7
+    10, // 8
+    14, // 9
+    12, // 10
+    13, // 11
+    22, // 12
+    15, // 13
+    16, // 14
+    22, // 15
+    22, // 16
+    19, // 17 (to neutral)
+    20, // 18
+    22, // 19
+    21, // 20
+    22, // 21
+    0, // 22 done
+    0, // 23 error
 ];
 
 // The phase after asking for the clutch, by phase; 0 where there is none.
 const CLUTCH: [u8; 24] = [
-    0,
-    2,
-    0,
-    0,
-    0,
-    0,
-    7,
-    0,
-    0,
-    0,
-    11,
-    0,
-    0,
-    0,
-    0,
-    0,
-    0,
-    18,
-    0,
-    0,
-    0,
-    0,
-    0,
-    0,
+    0, // 0 at rest
+    2, // 1 (from neutral)
+    0, // 2
+    0, // 3
+    0, // 4
+    0, // 5
+    7, // 6 (gear to gear)
+    0, // 7
+    0, // 8
+    0, // 9
+    11, // 10
+    0, // 11
+    0, // 12
+    0, // 13
+    0, // 14
+    0, // 15
+    0, // 16
+    18, // 17 (to neutral)
+    0, // 18
+    0, // 19
+    0, // 20
+    0, // 21
+    0, // 22 done
+    0, // 23 error
 ];
 
 // The next phase when a phase's order is taken.

@@ -1,9 +1,8 @@
 -- Laws on what a code, a middle byte and an amount mean: past the last code none, and codes 1 to 11 alike.
 -- Assumes nothing.
-use mathlib.Core.Path.{_≡_, refl, ap}
+use mathlib.Core.Path.{_≡_, refl}
 use mathlib.Core.Bool.{Bool, true, false, cond, _&&_}
 use Prim.Native.Nat.{ℕ, _≤_, _<_}
-use native.Mathlib.Omega.{arith}
 use lib.Dec.{eqb}
 use lib.ListN.{List·getD-eq-default}
 use Rattle.checks.proofs.Ranges.{from}

@@ -10,12 +10,16 @@ use native.Mathlib.Omega.{arith}
 use lib.Dec.{T, leb, ltb, eqb, leb→le, eqb→eq}
 use lib.ListN.{getD}
 use borrow.Author.Tests.{le-leb, lt-leb, le-ltb, eqb-false}
-use Rattle.checks.proofs.Tests.{passes, case, left, right, either}
+use Rattle.checks.specs.Checks.{first}
+use Rattle.checks.proofs.Tests.{tests, passes, case, left, right, either}
+use Rattle.checks.proofs.Checks.{first→holds, one-check}
 use Rattle.checks.proofs.Ranges.{from}
-use Rattle.phases.proofs.PhaseLaws.{unfinished-in}
+use Rattle.phases.proofs.PhaseLaws.{ordered, unfinished-in}
+use Rattle.limits.specs.declared.Table.{Table}
 use Rattle.shift.specs.declared.State.{State}
 use Rattle.phases.specs.Phases.{orderOf, unfinished, engine}
-use Rattle.shift.specs.Steps.{limited}
+use Rattle.shift.specs.States.{good}
+use Rattle.shift.specs.Steps.{shiftsIn, takeBound, inTakeTime, limited}
 
 -- three tests of one number, and one that asks for all
 pub all-three : (a b c : Bool) (k : ℕ) → cond ((a && b) && c) 0 k ≡ cond a (cond b (cond c 0 k) k) k
@@ -95,11 +99,16 @@ module _ (g : ℕ) where
 
 -- ---- EX, in the engine phases
 module _ (p x : ℕ) where
-  pub in-engine : 1 ≤ orderOf p → orderOf p ≤ 2 → cond (engine p) x 0 ≡ x
+  in-engine : 1 ≤ orderOf p → orderOf p ≤ 2 → cond (engine p) x 0 ≡ x
   in-engine l m = rw (le-leb 1 (orderOf p) l, le-leb (orderOf p) 2 m)
 
   pub no-engine : 2 < orderOf p → cond (engine p) x 0 ≡ 0
   no-engine m = rw (le-leb 1 (orderOf p) (omega arith), lt-leb (orderOf p) 2 m)
 
-  pub no-order : orderOf p < 1 → cond (engine p) x 0 ≡ 0
-  no-order l = rw (lt-leb 1 (orderOf p) l)
+pub engine-check :
+    {late : Bool} (t : Table) (s : State) → first (shiftsIn s good) ≡ 0 → orderOf (s .phase) ≤ 2
+    → late ≡ ltb (takeBound t s) (s .clock) → cond late 10 0 ≡ first (inTakeTime t s)
+engine-check t s z m e =
+    let held = first→holds 0 (shiftsIn s good) tt z in
+    let some = ordered (s .phase) (omega (arith, tests)) (omega (arith, tests)) in
+    rw (in-engine (s .phase) (s .clock) some m) (one-check (s .clock) (takeBound t s) 10 e)

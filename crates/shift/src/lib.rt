@@ -160,14 +160,14 @@ impl State {
     fn judged(self, table: Table, reading: Reading) -> Answer
         ensures { λ r. ⌜ r ≡ judged table self reading ⌝ }
     {
-        let number = self.unlisted();
-        if number == 0 {
-            return self.judged_listed(table, reading);
-        }
         let Reading::Means(_) = reading else {
             return self.refused(reading.refusal());
         };
-        self.refused(number)
+        let number = self.unlisted();
+        if number != 0 {
+            return self.refused(number);
+        }
+        self.judged_listed(table, reading)
     }
 
     // The same for a state that has been tested too.

@@ -2,7 +2,7 @@
 -- Assumes nothing.
 use mathlib.Core.Path.{_≡_, sym, ap, _∙_}
 use native.Mathlib.Omega.{arith}
-use Rattle.shift.specs.Answers.{reading, refusal}
+use Rattle.shift.specs.Answers.{refusal}
 use Rattle.shift.proofs.ReadingLaws.{past-codes, alike}
 use Rattle.shift.proofs.refusal_of.Statement.{statement}
 use Rattle.shift.proofs.refusal_of.Tie as tie

@@ -1,4 +1,4 @@
--- `State::judged` meets its contract: of a listed state the answer is its own; of another no step by its own number, and a step by the 7 of the state.
+-- `State::judged` meets its contract: no step by its own number, a step by the 7 of a state that is not listed, else the listed state's answer.
 -- Assumes nothing.
 use mathlib.Core.Path.{sym, _∙_}
 use mathlib.Core.List.{_++_}
@@ -15,32 +15,32 @@ use Rattle.shift.proofs.State.judged.Tie as tie
 returns : tie.Need-returns
 returns c =
     let a = c .before .before .before .args in
-    let met = first→holds 0 (listed (a .self)) tt (sym (c .before .before .unlisted .ensures) ∙ c .before .if1 .taken) in
-    c .judged-listed .ensures ∙ judged-as-listed (a .table) (a .self) (a .reading) (met .0)
+    rw (c .refused .ensures, c .before .refusal .ensures)
+    (no-step (λ (x : Step). listed (a .self) ++ allowed (a .table) (a .self) x) (a .self) (a .reading) (c .before .before .match .keys2))
 
 returns-2 : tie.Need-returns-2
 returns-2 c =
     let a = c .before .before .before .before .before .args in
-    rw (c .refused .ensures, c .before .refusal .ensures)
-    (no-step (λ (x : Step). listed (a .self) ++ allowed (a .table) (a .self) x) (a .self) (a .reading) (c .before .before .match .keys2))
+    let x = c .before .before .before .enum-told .given in
+    let number = c .before .before .unlisted in
+    let unmet = c .before .if1 .taken in
+    rw (x .1, ← found-left (listed (a .self)) (allowed (a .table) (a .self) (x .0 .0)) (number .ensures) unmet, c .refused2 .ensures)
+    (refuses (number .result) (effect (a .self) (x .0 .0)) (a .self) unmet)
 
 returns-3 : tie.Need-returns-3
 returns-3 c =
     let a = c .before .before .before .before .before .args in
-    let x = c .before .enum-told .given in
-    let number = c .before .before .before .before .unlisted in
-    let unmet = c .before .before .before .if1 .left in
-    rw (x .1, ← found-left (listed (a .self)) (allowed (a .table) (a .self) (x .0 .0)) (number .ensures) unmet, c .refused2 .ensures)
-    (refuses (number .result) (effect (a .self) (x .0 .0)) (a .self) unmet)
+    let met = first→holds 0 (listed (a .self)) tt (sym (c .before .before .unlisted .ensures) ∙ c .before .if1 .left) in
+    c .judged-listed .ensures ∙ judged-as-listed (a .table) (a .self) (a .reading) (met .0)
 
 pub judged-spec : {M : Type 1} → statement M
 judged-spec =
     tie.close
     (tie.spec
+    (λ c. search needs)
     (λ _ _. tt)
     (λ _ _. tt)
     returns
-    (λ c. search needs)
     (λ _ _. tt)
     (λ _ _. tt)
     returns-2

@@ -2,7 +2,6 @@
 -- Assumes nothing.
 use mathlib.Core.Path.{sym, ap, _∙_}
 use mathlib.Core.Bool.{Bool, cond}
-use Prim.Native.Nat.{ℕ}
 use lib.Dec.{leb, eqb}
 use Rattle.shift.proofs.StepLaws.{all-three}
 use Rattle.shift.proofs.State.shifts_in.Statement.{statement}
