@@ -99,7 +99,7 @@ module _ (g : ℕ) where
 
 -- ---- EX, in the engine phases
 module _ (p x : ℕ) where
-  in-engine : 1 ≤ orderOf p → orderOf p ≤ 2 → cond (engine p) x 0 ≡ x
+  pub in-engine : 1 ≤ orderOf p → orderOf p ≤ 2 → cond (engine p) x 0 ≡ x
   in-engine l m = rw (le-leb 1 (orderOf p) l, le-leb (orderOf p) 2 m)
 
   pub no-engine : 2 < orderOf p → cond (engine p) x 0 ≡ 0

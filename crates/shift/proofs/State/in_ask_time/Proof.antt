@@ -1,7 +1,5 @@
 -- `State::in_ask_time` meets its contract: the checks of `in_engine`, then DE.
 -- Assumes nothing.
-use mathlib.Core.Path.{sym, ap, _∙_}
-use mathlib.Core.Bool.{Bool, cond}
 use mathlib.Core.List.{List, _++_}
 use Rattle.checks.specs.Checks.{Check}
 use Rattle.checks.proofs.Checks.{found-left, found-right, one-check}
@@ -25,14 +23,14 @@ returns-2 c =
     let a = c .before .before .before .before .before .before .args in
     let early = rw (c .before .before .earliest-ask .ensures, c .before .before .before .order-of .ensures) at (c .before .is-early .ensures) in
     found-right (before (a .self)) (inAskTime (a .table) (a .self)) tt (c .before .before .before .before .before .in-engine .ensures) (c .before .before .before .before .if1 .left)
-    (ap (λ (x : Bool). cond x 9 0) (sym (c .if2 .taken)) ∙ one-check (askBound (a .table) (a .self)) (a .self .clock) 9 early)
+    (rw (c .if2 .taken) at (one-check (askBound (a .table) (a .self)) (a .self .clock) 9 early))
 
 returns-3 : tie.Need-returns-3
 returns-3 c =
     let a = c .before .before .before .before .before .before .args in
     let early = rw (c .before .before .earliest-ask .ensures, c .before .before .before .order-of .ensures) at (c .before .is-early .ensures) in
     found-right (before (a .self)) (inAskTime (a .table) (a .self)) tt (c .before .before .before .before .before .in-engine .ensures) (c .before .before .before .before .if1 .left)
-    (ap (λ (x : Bool). cond x 9 0) (sym (c .if2 .left)) ∙ one-check (askBound (a .table) (a .self)) (a .self .clock) 9 early)
+    (rw (c .if2 .left) at (one-check (askBound (a .table) (a .self)) (a .self .clock) 9 early))
 
 pub in-ask-time-spec : {M : Type 1} → statement M
 in-ask-time-spec =

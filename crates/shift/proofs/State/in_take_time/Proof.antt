@@ -1,7 +1,6 @@
 -- `State::in_take_time` meets its contract: the checks of `shifts_in`, then EX in the engine phases and nothing in the others.
 -- Assumes nothing.
-use mathlib.Core.Path.{sym, ap, _∙_}
-use mathlib.Core.Bool.{Bool, cond}
+use mathlib.Core.Path.{sym, _∙_}
 use native.Mathlib.Omega.{arith}
 use Rattle.checks.proofs.Tests.{tests}
 use Rattle.checks.proofs.Checks.{holds→first, found-left, found-right}
@@ -30,7 +29,7 @@ returns-3 c =
     let late = rw (c .before .before .latest-take .ensures, c .before .before .before .before .order-of .ensures) at (c .before .is-late .ensures) in
     let own = engine-check (a .table) (a .self) (sym (shifts .ensures) ∙ c .before .before .before .before .before .if1 .left) (omega arith) late in
     found-right (shiftsIn (a .self) good) (inTakeTime (a .table) (a .self)) tt (shifts .ensures) (c .before .before .before .before .before .if1 .left)
-    (ap (λ (x : Bool). cond x 10 0) (sym (c .if3 .taken)) ∙ own)
+    (rw (c .if3 .taken) at own)
 
 returns-4 : tie.Need-returns-4
 returns-4 c =
@@ -39,7 +38,7 @@ returns-4 c =
     let late = rw (c .before .before .latest-take .ensures, c .before .before .before .before .order-of .ensures) at (c .before .is-late .ensures) in
     let own = engine-check (a .table) (a .self) (sym (shifts .ensures) ∙ c .before .before .before .before .before .if1 .left) (omega arith) late in
     found-right (shiftsIn (a .self) good) (inTakeTime (a .table) (a .self)) tt (shifts .ensures) (c .before .before .before .before .before .if1 .left)
-    (ap (λ (x : Bool). cond x 10 0) (sym (c .if3 .left)) ∙ own)
+    (rw (c .if3 .left) at own)
 
 pub in-take-time-spec : {M : Type 1} → statement M
 in-take-time-spec =
