@@ -1,7 +1,7 @@
 -- Document 01, "The limit table": the fifteen rules of admission, and the number of the first that a table breaks.
 -- Assumes nothing.
 use mathlib.Core.Bool.{Bool, true, _&&_}
-use mathlib.Core.List.{List, [], _∷_}
+use mathlib.Core.List.{List, [], _∷_, _++_}
 use Prim.Native.Nat.{ℕ, _+_, _*_}
 use lib.Dec.{leb, ltb}
 use Rattle.checks.specs.Checks.{first, numbered}
@@ -13,25 +13,47 @@ abbrev pub atLeast1 : Bool → List ℕ → Bool
 atLeast1 b [] = b
 atLeast1 b (x ∷ xs) = atLeast1 (b && leb 1 x) xs
 
--- rules 1 to 15
-abbrev pub rules : Table → List Bool
-rules t =
-    atLeast1 true (entries t)
-    ∷ leb (2 * t .«channel_dl» + t .«engine_sync_dl») (t .«sync_ex»)
+-- rule 1: every entry is at least 1
+abbrev pub setRule : Table → List Bool
+setRule t = atLeast1 true (entries t) ∷ []
+
+-- rules 2 and 3: both ways over the channel and the engine's limit within its EX
+abbrev pub engineRules : Table → List Bool
+engineRules t =
+    leb (2 * t .«channel_dl» + t .«engine_sync_dl») (t .«sync_ex»)
     ∷ leb (2 * t .«channel_dl» + t .«engine_zero_dl») (t .«zero_ex»)
-    ∷ ltb (2 * t .«channel_dl» + t .«clutch_open_dl») (t .«open_clutch_dl»)
+    ∷ []
+
+-- rules 4 to 7: both ways and the device's limit below its phase limit
+abbrev pub deviceRules : Table → List Bool
+deviceRules t =
+    ltb (2 * t .«channel_dl» + t .«clutch_open_dl») (t .«open_clutch_dl»)
     ∷ ltb (2 * t .«channel_dl» + t .«clutch_close_dl») (t .«close_clutch_dl»)
     ∷ ltb (2 * t .«channel_dl» + t .«gear_set_dl») (t .«set_gear_dl»)
     ∷ ltb (2 * t .«channel_dl» + t .«gear_release_dl») (t .«release_dl»)
-    ∷ ltb (t .«sync_ex») (t .«sync_de»)
+    ∷ []
+
+-- rules 8 to 11: EX before DE, and DE within the phase limit
+abbrev pub askRules : Table → List Bool
+askRules t =
+    ltb (t .«sync_ex») (t .«sync_de»)
     ∷ ltb (t .«zero_ex») (t .«zero_de»)
     ∷ leb (t .«sync_de») (t .«sync_dl»)
     ∷ leb (t .«zero_de») (t .«zero_dl»)
-    ∷ leb (sumF t) (t .«change_dl»)
+    ∷ []
+
+-- rules 12 to 15: the four route sums within the limit for a whole change
+abbrev pub routeRules : Table → List Bool
+routeRules t =
+    leb (sumF t) (t .«change_dl»)
     ∷ leb (sumN t) (t .«change_dl»)
     ∷ leb (sumG1 t) (t .«change_dl»)
     ∷ leb (sumG2 t) (t .«change_dl»)
     ∷ []
+
+-- rules 1 to 15
+abbrev pub rules : Table → List Bool
+rules t = setRule t ++ (engineRules t ++ (deviceRules t ++ (askRules t ++ routeRules t)))
 
 -- 0: the table is admitted; else the number of the first broken rule
 abbrev pub brokenRule : Table → ℕ

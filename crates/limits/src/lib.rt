@@ -1,11 +1,10 @@
 // The limit table of document 01: eighteen limits, the default table, and the first rule that a table breaks.
 ghost use mathlib.Core.Path.{_≡_};
-ghost use Rattle.checks.specs.Checks.{first, numbered};
-ghost use Prim.Native.Nat.{_+_, _*_};
 ghost use mathlib.Core.Bool.{true};
-ghost use lib.Dec.{leb, ltb};
+ghost use Prim.Native.Nat.{_+_, _*_, _≤_};
+ghost use Rattle.checks.specs.Checks.{first, numbered};
 ghost use Rattle.limits.specs.Limits.{default, entries, tableOf};
-ghost use Rattle.limits.specs.Rules.{atLeast1, rules, brokenRule};
+ghost use Rattle.limits.specs.Rules.{atLeast1, engineRules, deviceRules, askRules, routeRules, brokenRule};
 
 // The limits under the manual's names, in milliseconds, in the order of their entry numbers 0 to 17.
 #[repr(C)]
@@ -113,59 +112,100 @@ impl Table {
     pub fn broken_rule(self) -> u8
         ensures { λ r. ⌜ r ≡ brokenRule self ⌝ }
     {
-        first_broken(self.rules())
+        if !self.is_set() {
+            return 1;
+        }
+        let number = self.broken_engine_rule();
+        if number != 0 {
+            return number;
+        }
+        let number = self.broken_device_rule();
+        if number != 0 {
+            return number;
+        }
+        let number = self.broken_ask_rule();
+        if number != 0 {
+            return number;
+        }
+        self.broken_route_rule()
     }
 
-    // Which of the rules 1 to 15 the table keeps, in their order.
-    fn rules(self) -> [bool; 15]
-        ensures { λ r. ⌜ r ≡ rules self ⌝ }
+    // Rules 2 and 3, or 0.
+    fn broken_engine_rule(self) -> u8
+        ensures { λ r. ⌜ r ≡ first (numbered 2 (engineRules self)) ⌝ }
     {
         let ch = self.channel_dl;
-        let f = sum4(
-            self.sync_dl,
-            self.open_clutch_dl,
-            self.set_gear_dl,
-            self.close_clutch_dl,
-        );
-        let n = sum4(
-            self.zero_dl,
-            self.open_clutch_dl,
-            self.release_dl,
-            self.close_clutch_dl,
-        );
-        let g1 = sum6(
-            self.zero_ex,
-            self.release_dl,
-            self.sync_dl,
-            self.open_clutch_dl,
-            self.set_gear_dl,
-            self.close_clutch_dl,
-        );
-        let g2 = sum5(
-            self.zero_dl,
-            self.open_clutch_dl,
-            self.release_dl,
-            self.set_gear_dl,
-            self.close_clutch_dl,
-        );
-        let change = self.change_dl as u32;
-        [
-            self.is_set(),
-            within(ch, self.engine_sync_dl, self.sync_ex),
-            within(ch, self.engine_zero_dl, self.zero_ex),
-            under(ch, self.clutch_open_dl, self.open_clutch_dl),
-            under(ch, self.clutch_close_dl, self.close_clutch_dl),
-            under(ch, self.gear_set_dl, self.set_gear_dl),
-            under(ch, self.gear_release_dl, self.release_dl),
-            self.sync_ex < self.sync_de,
-            self.zero_ex < self.zero_de,
-            self.sync_de <= self.sync_dl,
-            self.zero_de <= self.zero_dl,
-            f <= change,
-            n <= change,
-            g1 <= change,
-            g2 <= change,
-        ]
+        if wide(self.sync_ex) < both_ways(ch, self.engine_sync_dl) {
+            return 2;
+        }
+        if wide(self.zero_ex) < both_ways(ch, self.engine_zero_dl) {
+            return 3;
+        }
+        0
+    }
+
+    // Rules 4 to 7, or 0.
+    fn broken_device_rule(self) -> u8
+        ensures { λ r. ⌜ r ≡ first (numbered 4 (deviceRules self)) ⌝ }
+    {
+        let ch = self.channel_dl;
+        if wide(self.open_clutch_dl) <= both_ways(ch, self.clutch_open_dl) {
+            return 4;
+        }
+        if wide(self.close_clutch_dl) <= both_ways(ch, self.clutch_close_dl) {
+            return 5;
+        }
+        if wide(self.set_gear_dl) <= both_ways(ch, self.gear_set_dl) {
+            return 6;
+        }
+        if wide(self.release_dl) <= both_ways(ch, self.gear_release_dl) {
+            return 7;
+        }
+        0
+    }
+
+    // Rules 8 to 11, or 0.
+    fn broken_ask_rule(self) -> u8
+        ensures { λ r. ⌜ r ≡ first (numbered 8 (askRules self)) ⌝ }
+    {
+        if self.sync_de <= self.sync_ex {
+            return 8;
+        }
+        if self.zero_de <= self.zero_ex {
+            return 9;
+        }
+        if self.sync_dl < self.sync_de {
+            return 10;
+        }
+        if self.zero_dl < self.zero_de {
+            return 11;
+        }
+        0
+    }
+
+    // Rules 12 to 15, or 0.
+    fn broken_route_rule(self) -> u8
+        ensures { λ r. ⌜ r ≡ first (numbered 12 (routeRules self)) ⌝ }
+    {
+        let change = wide(self.change_dl);
+        let clutch = sum(self.open_clutch_dl, self.close_clutch_dl);
+        let f = sum(self.sync_dl, self.set_gear_dl) + clutch;
+        let n = sum(self.zero_dl, self.release_dl) + clutch;
+        let g1 = sum(self.zero_ex, self.release_dl) + f;
+        let g2 = n + wide(self.set_gear_dl);
+        if change < f {
+            return 12;
+        }
+        if change < n {
+            return 13;
+        }
+        if change < g1 {
+            return 14;
+        }
+        if change < g2 {
+            return 15;
+        }
+        0
     }
 
     // Every entry is at least 1.
@@ -193,50 +233,21 @@ impl Table {
     }
 }
 
-// 2 ch + limit ≤ bound
-fn within(ch: u16, limit: u16, bound: u16) -> bool
-    ensures { λ r. ⌜ r ≡ leb (2 * ch + limit) bound ⌝ }
+// Both ways over the channel, and a limit.
+fn both_ways(ch: u16, limit: u16) -> u32
+    ensures { λ r. ⌜ (r ≡ 2 * ch + limit) × (r ≤ 196605) ⌝ }
 {
-    2 * (ch as u32) + (limit as u32) <= bound as u32
+    2 * (ch as u32) + (limit as u32)
 }
 
-// 2 ch + limit < bound
-fn under(ch: u16, limit: u16, bound: u16) -> bool
-    ensures { λ r. ⌜ r ≡ ltb (2 * ch + limit) bound ⌝ }
+fn wide(x: u16) -> u32
+    ensures { λ r. ⌜ (r ≡ x) × (r ≤ 65535) ⌝ }
 {
-    2 * (ch as u32) + (limit as u32) < bound as u32
+    x as u32
 }
 
-fn sum4(a: u16, b: u16, c: u16, d: u16) -> u32
-    ensures { λ r. ⌜ r ≡ a + b + c + d ⌝ }
+fn sum(a: u16, b: u16) -> u32
+    ensures { λ r. ⌜ (r ≡ a + b) × (r ≤ 131070) ⌝ }
 {
-    a as u32 + (b as u32) + (c as u32) + (d as u32)
-}
-
-fn sum5(a: u16, b: u16, c: u16, d: u16, e: u16) -> u32
-    ensures { λ r. ⌜ r ≡ a + b + c + d + e ⌝ }
-{
-    a as u32 + (b as u32) + (c as u32) + (d as u32) + (e as u32)
-}
-
-fn sum6(a: u16, b: u16, c: u16, d: u16, e: u16, f: u16) -> u32
-    ensures { λ r. ⌜ r ≡ a + b + (c + d + e + f) ⌝ }
-{
-    a as u32 + (b as u32) + (c as u32 + (d as u32) + (e as u32) + (f as u32))
-}
-
-// The number, from 1, of the first rule that is not kept, or 0.
-fn first_broken(kept: [bool; 15]) -> u8
-    ensures { λ r. ⌜ r ≡ first (numbered 1 kept) ⌝ }
-{
-    let mut i: usize = 0;
-    let mut number: u8 = 1;
-    while i < 15 {
-        if !kept[i] {
-            return number;
-        }
-        i += 1;
-        number += 1;
-    }
-    0
+    a as u32 + (b as u32)
 }
