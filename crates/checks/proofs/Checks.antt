@@ -20,10 +20,6 @@ pub holds→first : (cs : List Check) → Holds cs → first cs ≡ 0
 holds→first [] h = refl
 holds→first (c ∷ cs) h = holding (c .ok) (first cs) (c .number) 0 (h .0) (holds→first cs (h .1))
 
-pub holds-append : (xs ys : List Check) → Holds xs → Holds ys → Holds (xs ++ ys)
-holds-append [] ys h k = k
-holds-append (c ∷ cs) ys h k = (h .0, holds-append cs ys (h .1) k)
-
 -- ---- an answer that a list cannot give comes from what follows it
 -- no check of the list has the number k
 abbrev pub absent : ℕ → List Check → Bool
