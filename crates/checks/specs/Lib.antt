@@ -1,3 +1,4 @@
 pub mod Checks
 pub mod Ranges
 pub mod Determined
+pub mod Conditions
