@@ -55,26 +55,8 @@ tableOf es = record {
 }
 
 abbrev pub default : Table
-default = record {
-  «channel_dl» = 5;
-  «engine_sync_dl» = 100;
-  «engine_zero_dl» = 200;
-  «clutch_open_dl» = 150;
-  «clutch_close_dl» = 150;
-  «gear_set_dl» = 300;
-  «gear_release_dl» = 200;
-  «sync_ex» = 150;
-  «zero_ex» = 250;
-  «sync_dl» = 155;
-  «zero_dl» = 255;
-  «sync_de» = 151;
-  «zero_de» = 251;
-  «open_clutch_dl» = 200;
-  «set_gear_dl» = 350;
-  «release_dl» = 250;
-  «close_clutch_dl» = 200;
-  «change_dl» = 1500;
-}
+default =
+    tableOf (5 ∷ 100 ∷ 200 ∷ 150 ∷ 150 ∷ 300 ∷ 200 ∷ 150 ∷ 250 ∷ 155 ∷ 255 ∷ 151 ∷ 251 ∷ 200 ∷ 350 ∷ 250 ∷ 200 ∷ 1500 ∷ [])
 
 -- the four route sums
 abbrev pub sumF : Table → ℕ

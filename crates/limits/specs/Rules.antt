@@ -8,14 +8,13 @@ use Rattle.checks.specs.Checks.{first, numbered}
 use Rattle.limits.specs.declared.Table.{Table}
 use Rattle.limits.specs.Limits.{entries, sumF, sumN, sumG1, sumG2}
 
--- the test b holds, and every number of the list is at least 1
-abbrev pub atLeast1 : Bool → List ℕ → Bool
-atLeast1 b [] = b
-atLeast1 b (x ∷ xs) = atLeast1 (b && leb 1 x) xs
-
 -- rule 1: every entry is at least 1
+abbrev pub atLeast1 : List ℕ → Bool
+atLeast1 [] = true
+atLeast1 (x ∷ xs) = leb 1 x && atLeast1 xs
+
 abbrev pub setRule : Table → List Bool
-setRule t = atLeast1 true (entries t) ∷ []
+setRule t = atLeast1 (entries t) ∷ []
 
 -- rules 2 and 3: both ways over the channel and the engine's limit within its EX
 abbrev pub engineRules : Table → List Bool

@@ -1,6 +1,5 @@
 // The limit table of document 01: eighteen limits, the default table, and the first rule that a table breaks.
 ghost use mathlib.Core.Path.{_≡_};
-ghost use mathlib.Core.Bool.{true};
 ghost use Prim.Native.Nat.{_+_, _*_, _≤_};
 ghost use Rattle.checks.specs.Checks.{first, numbered};
 ghost use Rattle.limits.specs.Limits.{default, entries, tableOf};
@@ -210,7 +209,7 @@ impl Table {
 
     // Every entry is at least 1.
     fn is_set(self) -> bool
-        ensures { λ r. ⌜ r ≡ atLeast1 true (entries self) ⌝ }
+        ensures { λ r. ⌜ r ≡ atLeast1 (entries self) ⌝ }
     {
         (1 <= self.channel_dl)
             & (1 <= self.engine_sync_dl)

@@ -2,4 +2,3 @@ pub mod Ascii
 pub mod Decimals
 pub mod Lines
 pub mod Laying
-pub mod KnownLines

@@ -28,7 +28,7 @@ pub extern "C" fn munasirel_admit(table: Table) -> u8
     table.broken_rule()
 }
 
-// The table of a good file.
+// The table of a file; of one that has none, the default.
 #[no_mangle]
 pub extern "C" fn munasirel_table(file: &[u8]) -> Table
     ensures { λ r. ⌜ r ≡ tableIn (now (file .entry)) ⌝ }

@@ -3,3 +3,4 @@ pub mod ReadingLaws
 pub mod AnswerLaws
 pub mod ListedLaws
 pub mod Determined
+pub mod KnownRuns

@@ -19,7 +19,6 @@ use Rattle.shift.specs.declared.Answer.{Answer}
 use Rattle.shift.specs.States.{entered}
 use Rattle.shift.specs.Steps.{allowed, requested, effect}
 use Rattle.shift.specs.Answers.{refusal, listed, checksOf, guard, led, answer, judged}
-use Rattle.shift.specs.Listed.{judgedListed}
 
 -- of a listed state nothing is checked but what its step asks
 pub left-to-check : (t : Table) (s : State) → Holds (listed s) → (r : Reading) → first (checksOf (allowed t s) r) ≡ guard t s r
@@ -27,7 +26,9 @@ left-to-check t s h (Means x) = sym (first-right (listed s) (allowed t s x) h)
 left-to-check t s h WrongCode = refl
 left-to-check t s h WrongAmount = refl
 
-pub judged-as-listed : (t : Table) (s : State) (r : Reading) → Holds (listed s) → judgedListed t s r ≡ judged t s r
+pub judged-as-listed :
+    (t : Table) (s : State) (r : Reading) → Holds (listed s)
+    → answer (first (checksOf (allowed t s) r)) (led s r) s ≡ judged t s r
 judged-as-listed t s r h = ap (λ k. answer k (led s r) s) (left-to-check t s h r)
 
 -- of another what is no step is refused by its own number, and a step by the state's

@@ -1,8 +1,9 @@
 // The shift machine of document 01: one step on any state, any table, any code and any amount.
 ghost use mathlib.Core.Path.{_≡_};
 ghost use Rattle.shift.specs.States.{start};
-ghost use Rattle.shift.specs.Answers.{plain, ticking, reading, refusal, refused, judged, stepOn};
-ghost use Rattle.shift.specs.Listed.{judgedListed};
+ghost use Rattle.checks.specs.Checks.{first};
+ghost use Rattle.shift.specs.Steps.{allowed, effect};
+ghost use Rattle.shift.specs.Answers.{plain, ticking, reading, refusal, checksOf, led, refused, answer, judged, stepOn};
 use limits::Table;
 
 mod effects;
@@ -160,23 +161,30 @@ impl State {
     fn judged(self, table: Table, reading: Reading) -> Answer
         ensures { λ r. ⌜ r ≡ judged table self reading ⌝ }
     {
-        let Reading::Means(_) = reading else {
+        let Reading::Means(x) = reading else {
             return self.refused(reading.refusal());
         };
         let number = self.unlisted();
         if number != 0 {
             return self.refused(number);
         }
-        self.judged_listed(table, reading)
+        self.stepped(table, x)
     }
 
-    // The same for a state that has been tested too.
+    // The same for a state that has been tested too: what `judged` checks but for the state's own 7.
     pub fn judged_listed(self, table: Table, reading: Reading) -> Answer
-        ensures { λ r. ⌜ r ≡ judgedListed table self reading ⌝ }
+        ensures { λ r. ⌜ r ≡ answer (first (checksOf (allowed table self) reading)) (led self reading) self ⌝ }
     {
         let Reading::Means(x) = reading else {
             return self.refused(reading.refusal());
         };
+        self.stepped(table, x)
+    }
+
+    // One of the steps, where state and table have been tested.
+    fn stepped(self, table: Table, x: Step) -> Answer
+        ensures { λ r. ⌜ r ≡ answer (first (allowed table self x)) (effect self x) self ⌝ }
+    {
         let number = self.guard(table, x);
         if number != 0 {
             return self.refused(number);

@@ -1,7 +1,7 @@
 -- Laws on the header and the table of a file that was written, and on what makes a file a good one.
 -- Assumes nothing.
 use mathlib.Core.Path.{_≡_, refl, sym, ap, _∙_}
-use mathlib.Core.Bool.{Bool, true, false, cond, _||_}
+use mathlib.Core.Bool.{cond, _||_, and-false}
 use mathlib.Core.List.{List, [], _∷_, _++_}
 use Prim.Native.Nat.{ℕ, zero, suc, _+_, _*_, _/_, _%_, _≤_}
 use native.Mathlib.Omega.{arith}
@@ -12,7 +12,6 @@ use borrow.Author.Tests.{eq-eqb, ne-eqb, le-leb}
 use Rattle.checks.specs.Checks.{Holds}
 use Rattle.checks.proofs.Checks.{holds→first}
 use Rattle.checks.proofs.Tests.{tests}
-use Rattle.limits.specs.declared.Table.{Table}
 use Rattle.limits.specs.Limits.{tableOf, default}
 use Rattle.limits.specs.Rules.{brokenRule}
 use Rattle.stepfile.specs.Bytes.{u16sAt, bytesOf}
@@ -53,19 +52,11 @@ module _ (k n : ℕ) (rest : List ℕ) where
 -- ---- the table of a file with entries, and of one without
 pub with-entries : (f : List ℕ) → 48 ≤ length f → tableEntries f ≡ 18 → tableIn f ≡ tableOf (u16sAt f 12 18)
 unfolding tableIn
-with-entries f l e =
-    ap (λ b. cond b (cond (eqb (tableEntries f) 18) (tableOf (u16sAt f 12 18)) default) default) (le-leb 48 (length f) l)
-    ∙ ap (λ b. cond b (tableOf (u16sAt f 12 18)) default) (eq-eqb (tableEntries f) 18 e)
-
-either-way : (b : Bool) (t u : Table) → t ≡ u → cond b t u ≡ u
-either-way true t u e = e
-either-way false t u e = refl
+with-entries f l e = rw (le-leb 48 (length f) l, eq-eqb (tableEntries f) 18 e)
 
 pub without-entries : (f : List ℕ) → tableEntries f ≡ 0 → tableIn f ≡ default
 unfolding tableIn
-without-entries f e =
-    either-way (leb 48 (length f)) (cond (eqb (tableEntries f) 18) (tableOf (u16sAt f 12 18)) default) default
-    (ap (λ b. cond b (tableOf (u16sAt f 12 18)) default) (ne-eqb (tableEntries f) 18 (omega arith)))
+without-entries f e = rw (ne-eqb (tableEntries f) 18 (omega arith), and-false)
 
 -- ---- a file is good whose header fields and table are
 pub headed-well :

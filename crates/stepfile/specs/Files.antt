@@ -1,6 +1,6 @@
 -- Document 01, "Step files, parts and writing": the header of a file, refusals 1 to 4, its table and its record bytes.
 -- Assumes nothing.
-use mathlib.Core.Bool.{cond, _||_}
+use mathlib.Core.Bool.{cond, _&&_, _||_}
 use mathlib.Core.List.{List, [], _∷_, _++_}
 use Prim.Native.Nat.{ℕ, _+_, _*_}
 use lib.Dec.{leb, eqb}
@@ -41,9 +41,9 @@ headedBy len offset k from n =
 abbrev pub headed : List ℕ → List Check
 headed f = headedBy (length f) (tableOffset f) (tableEntries f) (recordOffset f) (recordCount f)
 
--- ---- the table: eighteen entries, or the default where there are none
+-- ---- the table: eighteen entries where the header says so and there is room for them, else the default
 unfoldable pub tableIn : List ℕ → Table
-tableIn f = cond (leb 48 (length f)) (cond (eqb (tableEntries f) 18) (tableOf (u16sAt f 12 18)) default) default
+tableIn f = cond (leb 48 (length f) && eqb (tableEntries f) 18) (tableOf (u16sAt f 12 18)) default
 
 -- ---- refusals 1 to 4, the rule's number with 4 and 0 otherwise
 abbrev pub checks : List ℕ → List Check

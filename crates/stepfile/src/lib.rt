@@ -78,7 +78,7 @@ fn fields(len: usize, offset: usize, entries: usize, from: usize, count: usize) 
     0
 }
 
-// The table of a good file: its eighteen entries, or the default where it has none.
+// The table of any file: the eighteen entries behind its header where the header says so and they are there, else the default.
 pub fn table(file: &[u8]) -> Table
     ensures { λ r. ⌜ r ≡ tableIn (now (file .entry)) ⌝ }
 {
@@ -105,7 +105,7 @@ fn entries_at(file: &[u8]) -> [u16; 18]
     entries
 }
 
-// The record bytes of a good file, as that part of the lent file; of a refused file an empty part.
+// The record bytes of a file, as that part of the lent file; of one that is refused with 1 to 4 an empty part.
 pub fn records(file: &[u8]) -> &[u8]
     ensures { λ r. ⌜ now r ≡ recordBytes (now (file .entry)) ⌝ }
 {
@@ -116,7 +116,7 @@ pub fn records(file: &[u8]) -> &[u8]
     from_offset(file)
 }
 
-// The same for a file that has been tested: what stands from its record offset on.
+// What stands from a file's record offset on, whether it is refused or not; nothing where there is no such place.
 pub fn from_offset(file: &[u8]) -> &[u8]
     ensures { λ r. ⌜ now r ≡ fromOffset (now (file .entry)) ⌝ }
 {

@@ -2,3 +2,4 @@ pub mod Judging
 pub mod Verdicts
 pub mod LongInputs
 pub mod Determined
+pub mod KnownFiles

@@ -1,0 +1,102 @@
+-- Document 01, "Small table of known runs": K1 to K13, and the statement that the definitions give these answers, the state in all of
+-- its fields.
+-- Assumes nothing.
+use mathlib.Core.Path.{_≡_, refl}
+use mathlib.Core.List.{List, [], _∷_, _++_, map}
+use Prim.Native.Nat.{ℕ}
+use lib.ListN.{set}
+use Rattle.limits.specs.declared.Table.{Table}
+use Rattle.limits.specs.Limits.{entries, tableOf, default}
+use Rattle.limits.specs.Rules.{brokenRule}
+use Rattle.shift.specs.declared.State.{State}
+use Rattle.shift.specs.declared.Reading.{Reading}
+use Rattle.shift.specs.declared.Answer.{Answer}
+use Rattle.shift.specs.States.{start, neutral, inGear, none, sent, working, good, waiting}
+use Rattle.shift.specs.Answers.{reading, stepOn}
+use Rattle.shift.specs.Runs.{Outcome, run}
+
+-- a step by its code, and tN
+abbrev step : ℕ → Reading
+step code = reading code 0 0
+
+abbrev t : ℕ → Reading
+t n = reading 12 0 n
+
+-- clock, box, phase, phase time, stage, stage time, request time, failed phase
+abbrev state : ℕ → ℕ → ℕ → ℕ → ℕ → ℕ → ℕ → ℕ → State
+state clock box phase phaseTime stage stageTime requestTime failedPhase = record {
+  clock = clock;
+  «gear_box» = box;
+  phase = phase;
+  «phase_time» = phaseTime;
+  stage = stage;
+  «stage_time» = stageTime;
+  «request_time» = requestTime;
+  «failed_phase» = failedPhase;
+}
+
+-- a list of steps, and what it ends in: how many are accepted, the number, the state
+record Known : Type 0 where
+  steps : List Reading
+  ends : Outcome
+
+abbrev known : List Reading → ℕ → ℕ → State → Known
+known rs count number s = record { steps = rs; ends = record { count = count; number = number; state = s } }
+
+abbrev k1 : List Reading
+k1 = step 1 ∷ t 5 ∷ step 4 ∷ t 100 ∷ step 5 ∷ t 5 ∷ step 8 ∷ step 4 ∷ t 300 ∷ step 5 ∷ step 8 ∷ step 11 ∷ []
+
+abbrev runs : List Known
+runs =
+    -- K1: accepted, clock 410, at rest, in gear
+    known k1 12 0 (state 410 inGear 0 410 none 410 0 0)
+    -- K2: no steps: accepted, start state
+    ∷ known [] 0 0 (state 0 neutral 0 0 none 0 0 0)
+    -- K3, and with t5
+    ∷ known (step 1 ∷ t 6 ∷ []) 1 12 (state 0 neutral 1 0 sent 0 0 0)
+    ∷ known (step 1 ∷ t 5 ∷ []) 2 0 (state 5 neutral 1 0 sent 0 0 0)
+    -- K4
+    ∷ known (step 1 ∷ t 5 ∷ step 4 ∷ t 101 ∷ []) 3 12 (state 5 neutral 1 0 working 5 0 0)
+    -- K5
+    ∷ known (step 1 ∷ step 4 ∷ step 7 ∷ t 150 ∷ step 9 ∷ []) 4 9 (state 150 neutral 1 0 waiting 0 0 0)
+    -- K6
+    ∷ known (step 1 ∷ step 4 ∷ step 7 ∷ t 151 ∷ step 9 ∷ []) 5 0 (state 151 neutral 2 151 sent 151 0 0)
+    -- K7, and with t155
+    ∷ known (step 1 ∷ step 4 ∷ step 7 ∷ t 156 ∷ []) 3 11 (state 0 neutral 1 0 waiting 0 0 0)
+    ∷ known (step 1 ∷ step 4 ∷ step 7 ∷ t 155 ∷ []) 4 0 (state 155 neutral 1 0 waiting 0 0 0)
+    -- K8
+    ∷ known (step 2 ∷ []) 0 8 (state 0 neutral 0 0 none 0 0 0)
+    -- K9
+    ∷ known (step 1 ∷ step 1 ∷ []) 1 7 (state 0 neutral 1 0 sent 0 0 0)
+    -- K10
+    ∷ known (step 1 ∷ step 4 ∷ step 6 ∷ []) 2 7 (state 0 neutral 1 0 working 0 0 0)
+    -- K11: phase 23, failed phase 19, box in gear
+    ∷ known
+    (k1 ++ (step 3 ∷ step 4 ∷ step 5 ∷ step 8 ∷ step 4 ∷ step 6 ∷ step 10 ∷ step 11 ∷ []))
+    19
+    7
+    (state 410 inGear 23 410 none 410 410 19)
+    ∷ []
+
+-- the default table with another ChangeDL
+abbrev changing : ℕ → Table
+changing n = tableOf (set (entries default) 17 n)
+
+-- phase 1, phase time 0, stage good
+abbrev goodAt : ℕ → State
+goodAt clock = state clock neutral 1 0 good 0 0 0
+
+abbrev answered : ℕ → State → Answer
+answered number s = record { number = number; rule = 0; state = s }
+
+-- K1 to K11 end so; K12: rule 14 is broken at 1,404 and none at 1,405; K13: a take is accepted at 150 and leads to phase 3, and is
+-- refused with 10 at 151
+pub record KnownRuns : Type 0 where
+  pub k1-k11 : map (λ k. run default start (k .steps)) runs ≡ map (λ k. k .ends) runs
+  pub k12 : map (λ n. brokenRule (changing n)) (1404 ∷ 1405 ∷ []) ≡ 14 ∷ 0 ∷ []
+  pub k13 :
+      map (λ n. stepOn default (goodAt n) 8 0) (150 ∷ 151 ∷ [])
+      ≡ answered 0 (state 150 neutral 3 150 sent 150 0 0) ∷ answered 10 (goodAt 151) ∷ []
+
+pub known-runs : KnownRuns
+known-runs = record { k1-k11 = refl; k12 = refl; k13 = refl }

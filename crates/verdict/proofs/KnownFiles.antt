@@ -1,0 +1,119 @@
+-- Document 01, "Numbers for what is refused" and "What the contracts have to determine": the files that hold K1, K3, K4, K5 and K6 byte
+-- by byte, their verdicts and lines, and the five versions of a judge that are ruled out.
+-- Assumes nothing.
+use mathlib.Core.Path.{_≡_, refl, sym, ap, subst, _∙_}
+use mathlib.Core.List.{List, [], _∷_, map}
+use Prim.Native.Nat.{ℕ}
+use native.Mathlib.Omega.{arith}
+use denote.Ref.{now}
+use Rattle.line.specs.Ascii.{ascii}
+use Rattle.line.specs.Decimals.{decimalOf}
+use Rattle.line.specs.Lines.{lineOf}
+use Rattle.shift.specs.declared.State.{State}
+use Rattle.shift.specs.States.{start}
+use Rattle.shift.specs.Runs.{Outcome}
+use Rattle.stepfile.specs.Files.{tableIn, refusalOf, readingsOf}
+use Rattle.promises.specs.Verdicts.{Exact}
+use Rattle.promises.proofs.Promises.{no-other-outcome}
+use Rattle.verdict.specs.declared.Verdict.{Verdict}
+use Rattle.verdict.specs.Verdicts.{verdictOf}
+use Rattle.verdict.specs.Said.{lineFor}
+use Rattle.verdict.proofs.Verdicts.{outcome, read-files}
+use Rattle.verdict.proofs.judge.Reads as judge-reads
+
+-- ---- the files
+
+-- without a table: table offset 12, no entries, record offset 12, so many records
+abbrev headed : ℕ → List ℕ → List ℕ
+headed count records = 12 ∷ 0 ∷ 0 ∷ 0 ∷ 12 ∷ 0 ∷ 0 ∷ 0 ∷ count ∷ 0 ∷ 0 ∷ 0 ∷ records
+
+-- 1 t5 4 t100 5 t5, 8 4 t300 5 8 11
+abbrev pub k1 : List ℕ
+k1 =
+    headed 12 (1 ∷ 0 ∷ 0 ∷ 0 ∷ 12 ∷ 0 ∷ 5 ∷ 0 ∷ 4 ∷ 0 ∷ 0 ∷ 0 ∷ 12 ∷ 0 ∷ 100 ∷ 0 ∷ 5 ∷ 0 ∷ 0 ∷ 0 ∷ 12 ∷ 0 ∷ 5 ∷ 0
+    ∷ 8 ∷ 0 ∷ 0 ∷ 0 ∷ 4 ∷ 0 ∷ 0 ∷ 0 ∷ 12 ∷ 0 ∷ 44 ∷ 1 ∷ 5 ∷ 0 ∷ 0 ∷ 0 ∷ 8 ∷ 0 ∷ 0 ∷ 0 ∷ 11 ∷ 0 ∷ 0 ∷ 0 ∷ [])
+
+-- 1 t6
+abbrev pub k3 : List ℕ
+k3 = headed 2 (1 ∷ 0 ∷ 0 ∷ 0 ∷ 12 ∷ 0 ∷ 6 ∷ 0 ∷ [])
+
+-- 1 t5 4 t101, and its first record alone
+abbrev pub k4 : List ℕ
+k4 = headed 4 (1 ∷ 0 ∷ 0 ∷ 0 ∷ 12 ∷ 0 ∷ 5 ∷ 0 ∷ 4 ∷ 0 ∷ 0 ∷ 0 ∷ 12 ∷ 0 ∷ 101 ∷ 0 ∷ [])
+
+abbrev pub first-of-k4 : List ℕ
+first-of-k4 = headed 1 (1 ∷ 0 ∷ 0 ∷ 0 ∷ [])
+
+-- 1 4 7 t150 9
+abbrev pub k5 : List ℕ
+k5 = headed 5 (1 ∷ 0 ∷ 0 ∷ 0 ∷ 4 ∷ 0 ∷ 0 ∷ 0 ∷ 7 ∷ 0 ∷ 0 ∷ 0 ∷ 12 ∷ 0 ∷ 150 ∷ 0 ∷ 9 ∷ 0 ∷ 0 ∷ 0 ∷ [])
+
+-- 1 4 7 t151 9
+abbrev pub k6 : List ℕ
+k6 = headed 5 (1 ∷ 0 ∷ 0 ∷ 0 ∷ 4 ∷ 0 ∷ 0 ∷ 0 ∷ 7 ∷ 0 ∷ 0 ∷ 0 ∷ 12 ∷ 0 ∷ 151 ∷ 0 ∷ 9 ∷ 0 ∷ 0 ∷ 0 ∷ [])
+
+-- ---- their lines
+pub k1-prints : lineFor k1 ≡ ascii "accepted 12 0 410 0 1\n"
+unfolding lineOf decimalOf tableIn
+k1-prints = refl
+
+pub k5-prints : lineFor k5 ≡ ascii "refused 4 9 150 1 0\n"
+unfolding lineOf decimalOf tableIn
+k5-prints = refl
+
+-- ---- their verdicts: the number, the index, and the clock and the phase of the state
+abbrev pub told : Verdict → List ℕ
+told v = v .number ∷ v .index ∷ v .state .clock ∷ v .state .phase ∷ []
+
+pub known-files :
+    map (λ f. told (verdictOf f)) (k1 ∷ k3 ∷ k4 ∷ first-of-k4 ∷ k5 ∷ k6 ∷ [])
+    ≡ (0 ∷ 12 ∷ 410 ∷ 0 ∷ [])
+    ∷ (12 ∷ 1 ∷ 0 ∷ 1 ∷ [])
+    ∷ (12 ∷ 3 ∷ 5 ∷ 1 ∷ [])
+    ∷ (0 ∷ 1 ∷ 0 ∷ 1 ∷ [])
+    ∷ (9 ∷ 4 ∷ 150 ∷ 1 ∷ [])
+    ∷ (0 ∷ 5 ∷ 151 ∷ 2 ∷ [])
+    ∷ []
+unfolding tableIn
+known-files = refl
+
+-- ---- the five versions: for a file f, whatever the contract of `judge` allows as its verdict is so
+abbrev pub Answered : List ℕ → (Verdict → Type 0) → Type 0
+Answered f P = (κs : _) (a : _) (v : Verdict) (at : _) → judge-reads.Post κs a v at → now (a .0) ≡ f → P v
+
+answered : (f : List ℕ) (P : Verdict → Type 0) → P (verdictOf f) → Answered f P
+answered f P p κs a v at e g = subst P (sym (e ∙ ap verdictOf g)) p
+
+-- a judge that refuses every file: K1 is accepted
+pub not-every-file-is-refused : Answered k1 (λ v. v .number ≡ 0)
+unfolding tableIn
+not-every-file-is-refused = answered k1 (λ v. v .number ≡ 0) refl
+
+-- one with a constant verdict: that on K1 is not that on K3
+pub no-constant-verdict : Answered k1 (λ v. Answered k3 (λ w. ¬ (v ≡ w)))
+unfolding tableIn
+no-constant-verdict =
+    answered k1 (λ v. Answered k3 (λ w. ¬ (v ≡ w)))
+    (answered k3 (λ w. ¬ (verdictOf k1 ≡ w)) (λ e. let same : 0 ≡ 12 = ap (λ (v : Verdict). v .number) e in omega arith))
+
+-- a step that hands its state back untouched: K6 is accepted and does not end where it starts
+pub no-step-hands-its-state-back : Answered k6 (λ v. (v .number ≡ 0) × ¬ (v .state ≡ start))
+unfolding tableIn
+no-step-hands-its-state-back =
+    answered k6 (λ v. (v .number ≡ 0) × ¬ (v .state ≡ start))
+    (refl, λ e. let same : 2 ≡ 0 = ap (λ (s : State). s .phase) e in omega arith)
+
+-- one that works the first record and nods the others through: K4's first record is accepted and its fourth is not
+pub no-record-is-nodded-through :
+    Answered first-of-k4 (λ v. v .number ≡ 0) × Answered k4 (λ v. (v .number ≡ 12) × (v .index ≡ 3))
+unfolding tableIn
+no-record-is-nodded-through =
+    (answered first-of-k4 (λ v. v .number ≡ 0) refl, answered k4 (λ v. (v .number ≡ 12) × (v .index ≡ 3)) (refl, refl))
+
+-- a records-accepted figure that is invented: of every file that is read it is the index that the rules first forbid, or the length
+pub no-figure-is-invented :
+    (f : List ℕ) → refusalOf f .number ≡ 0 → (o : Outcome) → Exact (tableIn f) start (readingsOf f) o
+    → Answered f (λ v. v .index ≡ o .count)
+no-figure-is-invented f z o x =
+    answered f (λ v. v .index ≡ o .count)
+    (ap (λ (q : Outcome). q .count) (no-other-outcome (tableIn f) start (readingsOf f) (outcome (verdictOf f)) o (read-files f z) x))
