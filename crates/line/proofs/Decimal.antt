@@ -12,7 +12,7 @@ use lib.ListN.{length, length-append}
 use borrow.Author.Tests.{lt-ltb, le-ltb, leb-true, leb-false, ltb-true, ltb-false}
 use Rattle.checks.proofs.Tests.{case}
 use Rattle.io.specs.Digits.{glyph, digits, Fewest}
-use Rattle.line.specs.Decimals.{spelled, decimalOf, readFrom}
+use Rattle.line.specs.Decimals.{spelled, decimalOf}
 
 -- a digit below 10
 figure : (n : ℕ) → glyph (n % 10) ≡ 48 + n % 10
@@ -51,6 +51,11 @@ few n k h f = case (leb k 20) (leb-true k 20) more
         let least : 10 ^ (k - 1) ≤ n = f .2 (omega arith) in
         let power : 10 ^ 20 ≤ 10 ^ (k - 1) = pow-le-pow-right (omega arith) {i = 20} {j = k - 1} (omega arith) in
         omega arith
+
+-- the number that digits make after those that made m
+abbrev pub readFrom : ℕ → List ℕ → ℕ
+readFrom m [] = m
+readFrom m (d ∷ ds) = readFrom (m * 10 + (d - 48)) ds
 
 read-last : (m : ℕ) (ds : List ℕ) (d : ℕ) → readFrom m (ds ++ d ∷ []) ≡ readFrom m ds * 10 + (d - 48)
 read-last m [] d = refl

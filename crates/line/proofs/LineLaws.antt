@@ -11,7 +11,11 @@ use lib.Seq.{take-at, length-take-le}
 use lib.Dec.{leb}
 use borrow.Author.Tests.{le-leb, lt-leb, leb-true}
 use Rattle.checks.proofs.Tests.{case}
-use Rattle.line.specs.Laying.{fits, laid, after, written}
+use Rattle.line.specs.Laying.{fits, laid, after}
+
+-- a buffer with the bytes of a text from a place on
+abbrev pub written : List ℕ → ℕ → List ℕ → List ℕ
+written out at text = take at out ++ text ++ drop (at + length text) out
 
 pub appended : (text bytes : List ℕ) (at : ℕ) → at + length bytes ≤ length text
     → take (at + length bytes) (written text at bytes) ≡ take at text ++ bytes

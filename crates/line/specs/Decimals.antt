@@ -1,6 +1,6 @@
 -- A number in decimal, in ASCII.
 -- Assumes nothing.
-use Prim.Native.Nat.{ℕ, zero, suc, _+_, _-_, _*_, _/_, _%_}
+use Prim.Native.Nat.{ℕ, zero, suc, _+_, _/_, _%_}
 use mathlib.Core.Bool.{cond}
 use mathlib.Core.List.{List, [], _∷_, _++_}
 use lib.Dec.{ltb}
@@ -13,8 +13,3 @@ spelled (suc m) n = cond (ltb n 10) ((48 + n) ∷ []) (spelled m (n / 10) ++ (48
 -- the fewest decimal digits that hold n, and one for 0: n divisions are enough
 unfoldable pub decimalOf : ℕ → List ℕ
 decimalOf n = spelled (suc n) n
-
--- the number that digits make after those that made m
-abbrev pub readFrom : ℕ → List ℕ → ℕ
-readFrom m [] = m
-readFrom m (d ∷ ds) = readFrom (m * 10 + (d - 48)) ds

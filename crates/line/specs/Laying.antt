@@ -1,10 +1,10 @@
 -- Document 01, "Numbers for what is refused": the line laid into a lent buffer, at its start, with the bytes after it unchanged, or 15.
 -- Assumes nothing.
-use Prim.Native.Nat.{ℕ, _+_}
+use Prim.Native.Nat.{ℕ}
 use mathlib.Core.Bool.{Bool, cond}
 use mathlib.Core.List.{List, _++_}
 use lib.Dec.{leb}
-use lib.ListN.{length, take, drop}
+use lib.ListN.{length, drop}
 use Rattle.line.specs.declared.Laid.{Laid}
 
 abbrev pub fits : List ℕ → List ℕ → Bool
@@ -16,7 +16,3 @@ laid text out = cond (fits text out) (record { number = 0; length = length text 
 
 abbrev pub after : List ℕ → List ℕ → List ℕ
 after text out = cond (fits text out) (text ++ drop (length text) out) out
-
--- a buffer with the bytes of a text from a place on
-abbrev pub written : List ℕ → ℕ → List ℕ → List ℕ
-written out at text = take at out ++ text ++ drop (at + length text) out

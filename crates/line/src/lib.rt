@@ -2,10 +2,10 @@
 ghost use mathlib.Core.Path.{_≡_};
 ghost use mathlib.Core.List.{[], _∷_, _++_};
 ghost use Prim.Native.Nat.{_+_, _≤_};
-ghost use lib.ListN.{length, take};
+ghost use lib.ListN.{length, take, drop};
 ghost use Rattle.io.specs.Counts.{Counts};
 ghost use Rattle.line.specs.Lines.{wordOf, field, lineOf};
-ghost use Rattle.line.specs.Laying.{written, laid, after};
+ghost use Rattle.line.specs.Laying.{laid, after};
 
 pub enum Word {
     Accepted,
@@ -103,7 +103,7 @@ fn append_number(text: &mut [u8], at: usize, n: u64) -> usize
 fn append(text: &mut [u8], at: usize, bytes: &[u8]) -> usize
     requires { ⌜ at + length (now bytes) ≤ length (now text) ⌝ }
     ensures { λ r. ⌜ r ≡ at + length (now (bytes .entry)) ⌝ }
-    ensures { λ _. ⌜ now (text .exit) ≡ written (now (text .entry)) at (now (bytes .entry)) ⌝ }
+    ensures { λ _. ⌜ now (text .exit) ≡ take at (now (text .entry)) ++ now (bytes .entry) ++ drop (at + length (now (bytes .entry))) (now (text .entry)) ⌝ }
     ensures { λ r. ⌜ take r (now (text .exit)) ≡ take at (now (text .entry)) ++ now (bytes .entry) ⌝ }
 {
     let mut i = 0;

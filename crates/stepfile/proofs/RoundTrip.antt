@@ -3,11 +3,11 @@
 -- Assumes nothing.
 use mathlib.Core.Path.{_≡_, refl, sym, ap, _∙_, subst}
 use mathlib.Core.Bool.{_||_}
-use mathlib.Core.List.{List, [], _∷_, _++_, map}
+use mathlib.Core.List.{List, [], _∷_, _++_}
 use Prim.Native.Nat.{ℕ, _+_, _*_, _≤_}
 use native.Mathlib.Omega.{arith}
 use lib.Dec.{T, leb, eqb}
-use lib.ListN.{length, drop, length-drop, length-map}
+use lib.ListN.{length, drop, length-drop}
 use lib.Seq.{getD-drop}
 use Rattle.checks.specs.Checks.{_!_, first, Holds}
 use Rattle.checks.proofs.Checks.{holds→first, first→holds}
@@ -17,14 +17,14 @@ use Rattle.limits.specs.Rules.{brokenRule}
 use Rattle.stepfile.specs.declared.write.Wish.{Wish}
 use Rattle.stepfile.specs.declared.write.Wish.the-variants.{Given, NoTable}
 use Rattle.stepfile.specs.Bytes.{u16At, u16sAt, bytesOf}
-use Rattle.stepfile.specs.Records.{recordsIn}
-use Rattle.stepfile.specs.Files.{tableEntries, recordOffset, recordCount, headed, tableIn, refusalOf, readingsOf}
+use Rattle.stepfile.specs.Records.{recordOf, everyFour, recordsIn}
+use Rattle.stepfile.specs.Files.{tableEntries, recordOffset, recordCount, headed, tableIn, refusalOf, recordBytes, readingsOf}
 use Rattle.stepfile.specs.Writing.{wished, entriesOf, headerOf, recordsOf, fileOf, firstWrong, writable}
-use Rattle.stepfile.specs.RoundTrip.{Bytes, readingsBy, AllRead, codeOf, amountOf, wishIn, codesIn, amountsIn}
+use Rattle.stepfile.specs.RoundTrip.{Bytes, readingsBy, AllRead, codesOf, amountsOf, wishIn, codesIn, amountsIn}
 use Rattle.stepfile.proofs.WritingLaws.{size}
 use Rattle.stepfile.proofs.TableLaws.{dropped, read-back, entries-back, offset-back, count-back, with-entries, without-entries, headed-well, well, records-from, behind}
 use Rattle.stepfile.proofs.StepLaws.{records-back, all-read}
-use Rattle.stepfile.proofs.ReadLaws.{records-count, records-written, none-wrong}
+use Rattle.stepfile.proofs.ReadLaws.{counted, records-written, none-wrong}
 use Rattle.stepfile.proofs.WholeLaws.{GoodFile, good-file, numbers-written, length-u16sAt, six, wished-in, entries-in, at-most, assembled}
 
 -- ---- what is written is a good file and reads back
@@ -98,7 +98,7 @@ written-reads-back-the-steps w cs ns e r =
     let f = fileOf w cs ns in
     let k = length (entriesOf w) in
     let s = size w cs ns (known w cs ns e .0) in
-    records-from f (written-is-good w cs ns e) (omega arith)
+    ap recordsIn (records-from f (written-is-good w cs ns e) (omega arith))
     ∙ ap (λ i. recordsIn (drop i f)) (offset-back k (length cs) (entriesOf w ++ recordsOf cs ns))
     ∙ ap recordsIn (behind k (length cs) (entriesOf w) (recordsOf cs ns) refl)
     ∙ records-back 0 cs ns r
@@ -118,16 +118,16 @@ module _ (f : List ℕ) (b : Bytes f) (e : refusalOf f .number ≡ 0) (all : All
   abbrev records : List ℕ
   records = drop ends f
 
-  records-in : readingsOf f ≡ recordsIn records
+  records-in : recordBytes f ≡ records
   records-in =
       let w = good .whole in
-      records-from f e (omega arith) ∙ ap (λ i. recordsIn (drop i f)) (good .follow)
+      records-from f e (omega arith) ∙ ap (λ i. drop i f) (good .follow)
 
   records-length : length records ≡ 4 * recordCount f
   records-length = let w = good .whole in let d = length-drop ends f in omega arith
 
   steps-in : AllRead (recordsIn records)
-  steps-in = subst AllRead records-in all
+  steps-in = subst (λ l. AllRead (recordsIn l)) records-in all
 
   entries-fit-in : entriesOf (wishIn f) ≡ u16sAt f 12 (tableEntries f)
   entries-fit-in = let w = good .whole in entries-in f (good .few) (omega arith)
@@ -135,15 +135,16 @@ module _ (f : List ℕ) (b : Bytes f) (e : refusalOf f .number ≡ 0) (all : All
   entries-count : length (entriesOf (wishIn f)) ≡ tableEntries f
   entries-count = ap length entries-fit-in ∙ length-u16sAt f 12 (tableEntries f)
 
+  -- of each record one
+  counted-in : (take : ℕ → ℕ → ℕ → ℕ → ℕ) → length (everyFour take (recordBytes f)) ≡ recordCount f
+  counted-in take = ap (λ l. length (everyFour take l)) records-in ∙ counted take (recordCount f) records records-length
+
   codes-count : length (codesIn f) ≡ recordCount f
-  codes-count =
-      length-map (readingsOf f) codeOf
-      ∙ ap length records-in
-      ∙ records-count (recordCount f) records records-length
+  codes-count = counted-in _
 
   records-same : bytesOf (recordsOf (codesIn f) (amountsIn f)) ≡ records
   records-same =
-      ap (λ rs. bytesOf (recordsOf (map codeOf rs) (map amountOf rs))) records-in
+      ap (λ l. bytesOf (recordsOf (codesOf l) (amountsOf l))) records-in
       ∙ records-written (recordCount f) records records-length (λ j. rw getD-drop (b (ends + j))) steps-in
 
   header-same : headerOf (length (entriesOf (wishIn f))) (length (codesIn f)) ≡ u16sAt f 0 6
@@ -203,10 +204,10 @@ read-is-writable f b e all =
           (length (codesIn f))
           (length (amountsIn f))
           (brokenRule (wished (wishIn f)))
-          (length-map (readingsOf f) codeOf ∙ sym (length-map (readingsOf f) amountOf))
+          (n ∙ sym (counted-in f b e all _))
           (subst (λ m. m ≤ 16372) (sym n) (g .most))
           (ap brokenRule (wished-in f (g .few)) ∙ g .admitted),
-      ap (λ rs. firstWrong 0 (map codeOf rs) (map amountOf rs) .number) (records-in f b e all)
+      ap (λ l. firstWrong 0 (codesOf l) (amountsOf l) .number) (records-in f b e all)
           ∙ none-wrong 0 (records f b e all) (steps-in f b e all),
     )
 
@@ -217,5 +218,5 @@ as-many-records f e =
     let w = g .whole in
     let ends = 12 + 2 * tableEntries f in
     let d = length-drop ends f in
-    ap length (records-from f e (omega arith) ∙ ap (λ i. recordsIn (drop i f)) (g .follow))
-    ∙ records-count (recordCount f) (drop ends f) (omega arith)
+    ap (λ l. length (recordsIn l)) (records-from f e (omega arith) ∙ ap (λ i. drop i f) (g .follow))
+    ∙ counted recordOf (recordCount f) (drop ends f) (omega arith)

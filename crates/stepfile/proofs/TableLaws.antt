@@ -15,8 +15,7 @@ use Rattle.checks.proofs.Tests.{tests}
 use Rattle.limits.specs.Limits.{tableOf, default}
 use Rattle.limits.specs.Rules.{brokenRule}
 use Rattle.stepfile.specs.Bytes.{u16sAt, bytesOf}
-use Rattle.stepfile.specs.Records.{recordsIn}
-use Rattle.stepfile.specs.Files.{tableEntries, recordOffset, recordCount, headedBy, headed, tableIn, refusalOf, fromOffset, readingsOf}
+use Rattle.stepfile.specs.Files.{tableEntries, recordOffset, recordCount, headedBy, headed, tableIn, refusalOf, fromOffset, recordBytes}
 use Rattle.stepfile.specs.Writing.{headerOf}
 use Rattle.stepfile.proofs.FileLaws.{not-refused}
 use Rattle.stepfile.proofs.WritingLaws.{bytesOf-append, length-bytesOf}
@@ -68,11 +67,11 @@ headed-well len offset k from n o t r m l =
 pub well : (f : List ℕ) → Holds (headed f) → brokenRule (tableIn f) ≡ 0 → refusalOf f .number ≡ 0
 well f h b = let z = holds→first (headed f) h in sym (ap (λ r. r .number) (not-refused f refl z refl b))
 
--- ---- the records of a good file
-pub records-from : (f : List ℕ) → refusalOf f .number ≡ 0 → 12 ≤ length f → readingsOf f ≡ recordsIn (drop (recordOffset f) f)
+-- ---- the record bytes of a good file
+pub records-from : (f : List ℕ) → refusalOf f .number ≡ 0 → 12 ≤ length f → recordBytes f ≡ drop (recordOffset f) f
 records-from f e l =
-    ap (λ b. recordsIn (cond b (fromOffset f) [])) (eq-eqb (refusalOf f .number) 0 e)
-    ∙ ap (λ b. recordsIn (cond b (drop (recordOffset f) f) [])) (le-leb 12 (length f) l)
+    ap (λ b. cond b (fromOffset f) []) (eq-eqb (refusalOf f .number) 0 e)
+    ∙ ap (λ b. cond b (drop (recordOffset f) f) []) (le-leb 12 (length f) l)
 
 -- ---- what was written behind the entries
 pub behind : (k n : ℕ) (es rs : List ℕ) → length es ≡ k → drop (12 + 2 * k) (bytesOf (headerOf k n ++ (es ++ rs))) ≡ bytesOf rs

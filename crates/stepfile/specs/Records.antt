@@ -14,10 +14,14 @@ recordOf code middle low high = reading code middle (low + 256 * high)
 abbrev pub recordAt : List ℕ → ℕ → Reading
 recordAt l i = recordOf (getD l i 0) (getD l (i + 1) 0) (getD l (i + 2) 0) (getD l (i + 3) 0)
 
--- four bytes a record; what is left over is none
+-- what is taken of each four bytes, one record after the other; fewer than four that are left over are no record
+abbrev pub everyFour : {A : Type 0} → (ℕ → ℕ → ℕ → ℕ → A) → List ℕ → List A
+everyFour take [] = []
+everyFour take (a ∷ []) = []
+everyFour take (a ∷ b ∷ []) = []
+everyFour take (a ∷ b ∷ c ∷ []) = []
+everyFour take (a ∷ b ∷ c ∷ d ∷ rest) = take a b c d ∷ everyFour take rest
+
+-- what the records of a part mean
 abbrev pub recordsIn : List ℕ → List Reading
-recordsIn [] = []
-recordsIn (a ∷ []) = []
-recordsIn (a ∷ b ∷ []) = []
-recordsIn (a ∷ b ∷ c ∷ []) = []
-recordsIn (a ∷ b ∷ c ∷ d ∷ rest) = recordOf a b c d ∷ recordsIn rest
+recordsIn = everyFour recordOf

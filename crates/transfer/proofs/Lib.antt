@@ -3,3 +3,4 @@ pub mod CutLaws
 pub mod Transfers
 pub mod Nights
 pub mod Determined
+pub mod KnownJoins

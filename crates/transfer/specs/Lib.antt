@@ -1,3 +1,2 @@
 pub mod Join
-pub mod KnownJoins
 pub mod Transfers

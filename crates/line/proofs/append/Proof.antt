@@ -8,8 +8,7 @@ use native.Mathlib.Numerals.{add-one}
 use denote.Ref.{now}
 use lib.ListN.{length, getD, set, length-set}
 use lib.Seq.{paste, paste-zero, paste-suc, take-length}
-use Rattle.line.specs.Laying.{written}
-use Rattle.line.proofs.LineLaws.{appended}
+use Rattle.line.proofs.LineLaws.{written, appended}
 use Rattle.line.proofs.append.Statement.{statement}
 use Rattle.line.proofs.append.Tie as tie
 
