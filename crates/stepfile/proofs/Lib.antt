@@ -9,4 +9,5 @@ pub mod StepLaws
 pub mod ReadLaws
 pub mod WholeLaws
 pub mod RoundTrip
+pub mod RoundTripCalls
 pub mod Determined
