@@ -1,5 +1,6 @@
 pub mod Judging
 pub mod Verdicts
 pub mod LongInputs
+pub mod WrittenFiles
 pub mod Determined
 pub mod KnownFiles
