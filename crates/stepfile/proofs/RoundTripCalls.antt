@@ -1,7 +1,7 @@
 -- The round trip of files through a call of `write`: what it leaves in the lent buffer reads back, and a good file that was taken apart
 -- stands there again.
 -- Assumes nothing.
-use mathlib.Core.Path.{_≡_, refl, sym, ap, subst, _∙_}
+use mathlib.Core.Path.{_≡_, sym, ap, subst, _∙_}
 use mathlib.Core.List.{List}
 use Prim.Native.Nat.{ℕ, _≤_}
 use native.Mathlib.Omega.{arith}
@@ -28,7 +28,7 @@ use Rattle.stepfile.specs.RoundTrip.{Bytes, readingsBy, AllRead, wishIn,
 use Rattle.stepfile.proofs.WritingLaws.{size}
 use Rattle.stepfile.proofs.WriteLaws.{written}
 use Rattle.stepfile.proofs.RoundTrip.{written-is-good, written-reads-back-the-table, written-reads-back-the-steps, written-steps-all-read, read-is-written-back, read-is-writable}
-use Rattle.stepfile.proofs.write.write as write
+use Rattle.stepfile.proofs.write.write as write-call
 use Rattle.stepfile.proofs.write.write.Reads as write-reads
 
 -- ---- what is said
@@ -131,7 +131,7 @@ module _
 
 -- ---- of a call of `write`, whatever its contract allows
 module _
-    (κs : Lfts 3) (given : Args write.signature κs) (r : Written) (left : AtExit write.ended κs)
+    (κs : Lfts 3) (given : Args write-call.signature κs) (r : Written) (left : AtExit write-call.ended κs)
     (call : write-reads.Post κs given r left) where
   abbrev pub wish : Wish
   wish = given .0

@@ -17,12 +17,12 @@ use Rattle.stepfile.specs.Files.{readingsOf}
 use Rattle.stepfile.specs.Writing.{wished}
 use Rattle.stepfile.specs.RoundTrip.{readingsBy}
 use Rattle.stepfile.proofs.RoundTripCalls.{GoodFileOf, write-reads-back}
-use Rattle.stepfile.proofs.write.write as write
+use Rattle.stepfile.proofs.write.write as write-call
 use Rattle.stepfile.proofs.write.write.Reads as write-reads
 use Rattle.verdict.specs.declared.Verdict.{Verdict}
 use Rattle.verdict.specs.Verdicts.{ofRun, verdictOf}
 use Rattle.verdict.proofs.Judging.{read-verdict}
-use Rattle.verdict.proofs.judge as judge
+use Rattle.verdict.proofs.judge as judge-call
 use Rattle.verdict.proofs.judge.Reads as judge-reads
 
 pub judged-as-given : (t : Table) (steps : List Reading) (f : List ℕ) → GoodFileOf t steps f → verdictOf f ≡ ofRun (run t start steps)
@@ -33,7 +33,7 @@ judged-as-given t steps f g =
 
 -- of a call of `write` that answers 0
 module _
-    (κs : Lfts 3) (given : Args write.signature κs) (r : Written) (left : AtExit write.ended κs)
+    (κs : Lfts 3) (given : Args write-call.signature κs) (r : Written) (left : AtExit write-call.ended κs)
     (call : write-reads.Post κs given r left) (z : r .number ≡ 0) where
   -- the bytes that it wrote
   abbrev pub bytes : List ℕ
@@ -48,6 +48,6 @@ module _
 
   -- of any call of `judge` on them
   pub judge-of-what-was-written :
-      (κs′ : Lfts 1) (lent : Args judge.signature κs′) (v : Verdict) (left′ : AtExit judge.ended κs′)
+      (κs′ : Lfts 1) (lent : Args judge-call.signature κs′) (v : Verdict) (left′ : AtExit judge-call.ended κs′)
       → judge-reads.Post κs′ lent v left′ → now (lent .0) ≡ bytes → v ≡ verdict
   judge-of-what-was-written κs′ lent v left′ said e = said ∙ ap verdictOf e ∙ written-is-judged-as-given
