@@ -2,7 +2,7 @@
 ghost use mathlib.Core.Path.{_≡_};
 ghost use Rattle.shift.specs.States.{start};
 ghost use Rattle.checks.specs.Checks.{first};
-ghost use Rattle.shift.specs.Steps.{allowed, effect};
+ghost use Rattle.shift.specs.Steps.{allowed};
 ghost use Rattle.shift.specs.Answers.{plain, ticking, reading, refusal, checksOf, led, refused, answer, judged, stepOn};
 use limits::Table;
 
@@ -157,18 +157,19 @@ impl State {
         self.judged(table, Step::of(code, 0, amount))
     }
 
-    // The same for what was read of a record, under a table that has been tested.
+    // The same for what was read, under a table that has been tested.
     fn judged(self, table: Table, reading: Reading) -> Answer
         ensures { λ r. ⌜ r ≡ judged table self reading ⌝ }
     {
-        let Reading::Means(x) = reading else {
-            return self.refused(reading.refusal());
-        };
-        let number = self.unlisted();
-        if number != 0 {
-            return self.refused(number);
+        let unlisted = self.unlisted();
+        if unlisted == 0 {
+            return self.judged_listed(table, reading);
         }
-        self.stepped(table, x)
+        let wrong = reading.refusal();
+        if wrong != 0 {
+            return self.refused(wrong);
+        }
+        self.refused(unlisted)
     }
 
     // The same for a state that has been tested too: what `judged` checks but for the state's own 7.
@@ -178,13 +179,6 @@ impl State {
         let Reading::Means(x) = reading else {
             return self.refused(reading.refusal());
         };
-        self.stepped(table, x)
-    }
-
-    // One of the steps, where state and table have been tested.
-    fn stepped(self, table: Table, x: Step) -> Answer
-        ensures { λ r. ⌜ r ≡ answer (first (allowed table self x)) (effect self x) self ⌝ }
-    {
         let number = self.guard(table, x);
         if number != 0 {
             return self.refused(number);

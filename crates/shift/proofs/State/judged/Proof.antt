@@ -1,48 +1,52 @@
--- `State::judged` meets its contract: no step by its own number, a step by the 7 of a state that is not listed, else by what is checked of it.
+-- `State::judged` meets its contract: a listed state by its own answer, another by the number of what is no step, else by its 7.
 -- Assumes nothing.
-use mathlib.Core.Path.{sym, _∙_}
-use mathlib.Core.List.{_++_}
-use borrow.Author.Needs.{needs}
-use Rattle.checks.proofs.Checks.{first→holds, first-right, found-left}
-use Rattle.shift.specs.declared.Step.{Step}
-use Rattle.shift.specs.Steps.{allowed, effect}
-use Rattle.shift.specs.Answers.{listed}
-use Rattle.shift.proofs.AnswerLaws.{refuses, no-step}
+use mathlib.Core.Path.{_≡_, sym, ap, _∙_}
+use Prim.Native.Nat.{ℕ}
+use borrow.Author.Tests.{eq-eqb, ne-eqb}
+use Rattle.checks.specs.Checks.{first}
+use Rattle.checks.proofs.Checks.{first→holds}
+use Rattle.limits.specs.declared.Table.{Table}
+use Rattle.shift.specs.declared.State.{State}
+use Rattle.shift.specs.declared.Reading.{Reading}
+use Rattle.shift.specs.Answers.{refusal, listed, guard, led, refused, answer, judged}
+use Rattle.shift.proofs.AnswerLaws.{refuses}
+use Rattle.shift.proofs.ListedLaws.{judged-as-listed, kept-out}
 use Rattle.shift.proofs.State.judged.Statement.{statement}
 use Rattle.shift.proofs.State.judged.Tie as tie
 
 returns : tie.Need-returns
 returns c =
     let a = c .before .before .before .args in
-    rw (c .refused .ensures, c .before .refusal .ensures)
-    (no-step (λ (x : Step). listed (a .self) ++ allowed (a .table) (a .self) x) (a .self) (a .reading) (c .before .before .match .keys2))
+    let met = first→holds 0 (listed (a .self)) tt (sym (c .before .before .unlisted .ensures) ∙ c .before .if1 .taken) in
+    c .judged-listed .ensures ∙ judged-as-listed (a .table) (a .self) (a .reading) (met .0)
+
+-- a step that the guard answers so, other than 0, is refused by that
+stopped : (t : Table) (s : State) (r : Reading) (k : ℕ) → k ≡ guard t s r → ¬ (k ≡ 0) → refused k s ≡ judged t s r
+stopped t s r k e n = refuses k (led s r) s n ∙ ap (λ m. answer m (led s r) s) e
 
 returns-2 : tie.Need-returns-2
 returns-2 c =
-    let a = c .before .before .before .before .before .before .args in
-    let x = c .before .before .before .before .reading .given in
-    let number = c .before .before .unlisted in
-    let unmet = c .before .if1 .taken in
-    rw (x .1, ← found-left (listed (a .self)) (allowed (a .table) (a .self) (x .0 .0)) (number .ensures) unmet, c .refused2 .ensures)
-    (refuses (number .result) (effect (a .self) (x .0 .0)) (a .self) unmet)
+    let a = c .before .before .before .before .before .args in
+    let own = c .before .before .before .before .unlisted in
+    let wrong = c .before .before .refusal in
+    let unmet : ¬ (first (listed (a .self)) ≡ 0) = λ z. c .before .before .before .if1 .left (own .ensures ∙ z) in
+    let no-step = ne-eqb (refusal (a .reading)) 0 (λ z. c .before .if2 .taken (wrong .ensures ∙ z)) in
+    c .refused .ensures
+    ∙ stopped (a .table) (a .self) (a .reading) (wrong .result)
+    (wrong .ensures ∙ sym (kept-out (a .table) (a .self) (a .reading) unmet ∙ rw no-step))
+    (c .before .if2 .taken)
 
 returns-3 : tie.Need-returns-3
 returns-3 c =
-    let a = c .before .before .before .before .before .before .args in
-    let x = c .before .before .before .before .reading .given in
-    let met = first→holds 0 (listed (a .self)) tt (sym (c .before .before .unlisted .ensures) ∙ c .before .if1 .left) in
-    rw (x .1, first-right (listed (a .self)) (allowed (a .table) (a .self) (x .0 .0)) (met .0)) (c .stepped .ensures)
+    let a = c .before .before .before .before .before .args in
+    let own = c .before .before .before .before .unlisted in
+    let wrong = c .before .before .refusal in
+    let unmet : ¬ (first (listed (a .self)) ≡ 0) = λ z. c .before .before .before .if1 .left (own .ensures ∙ z) in
+    let a-step = eq-eqb (refusal (a .reading)) 0 (sym (wrong .ensures) ∙ c .before .if2 .left) in
+    c .refused2 .ensures
+    ∙ stopped (a .table) (a .self) (a .reading) (own .result)
+    (own .ensures ∙ sym (kept-out (a .table) (a .self) (a .reading) unmet ∙ rw a-step))
+    (c .before .before .before .if1 .left)
 
 pub judged-spec : {M : Type 1} → statement M
-judged-spec =
-    tie.close
-    (tie.spec
-    (λ c. search needs)
-    (λ _ _. tt)
-    (λ _ _. tt)
-    returns
-    (λ _ _. tt)
-    (λ _ _. tt)
-    returns-2
-    (λ _ _. tt)
-    returns-3)
+judged-spec = tie.close (tie.spec (λ _ _. tt) (λ _ _. tt) returns (λ _ _. tt) (λ _ _. tt) returns-2 (λ _ _. tt) returns-3)
