@@ -1,2 +1,3 @@
 pub mod PhaseLaws
+pub mod ByPhaseLaws
 pub mod Determined

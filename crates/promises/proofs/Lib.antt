@@ -3,4 +3,5 @@ pub mod Runs
 pub mod Looser
 pub mod Ages
 pub mod Permitted
+pub mod EffectLaws
 pub mod Exactly

@@ -12,15 +12,17 @@ use Rattle.limits.specs.Tighter.{NowhereTighter}
 use Rattle.shift.specs.declared.State.{State}
 use Rattle.shift.specs.declared.Reading.{Reading}
 use Rattle.shift.specs.States.{start}
-use Rattle.shift.specs.Answers.{guard}
+use Rattle.shift.specs.Answers.{guard, led}
 use Rattle.shift.specs.Runs.{Outcome, run}
 use Rattle.promises.specs.Allowed.{Permitted}
+use Rattle.promises.specs.Effects.{Makes}
 use Rattle.promises.specs.Kinds.{Kind, lastKind, NotOlder}
 use Rattle.promises.specs.Verdicts.{Exact, joined}
 use Rattle.promises.proofs.Runs.{pieces, beginning}
 use Rattle.promises.proofs.Looser.{same-run}
 use Rattle.promises.proofs.Ages.{in-time, covered, sums-admitted}
 use Rattle.promises.proofs.Permitted.{permitted}
+use Rattle.promises.proofs.EffectLaws.{effects}
 use Rattle.promises.proofs.Exactly.{exact, only}
 
 -- ---- demand 2
@@ -28,6 +30,11 @@ use Rattle.promises.proofs.Exactly.{exact, only}
 -- the two definitions of "allowed" are one
 pub allowed-in-the-document's-words : (t : Table) (s : State) (r : Reading) → (guard t s r ≡ 0) ↔ Permitted t s r
 allowed-in-the-document's-words = permitted
+
+-- and so are the two definitions of an effect: a permitted step leads to the state that the column "effect" describes, and to no other
+pub effects-in-the-document's-words :
+    (t : Table) (s : State) (r : Reading) → Permitted t s r → (s′ : State) → (s′ ≡ led s r) ↔ Makes s r s′
+effects-in-the-document's-words = effects
 
 -- a list is accepted up to exactly the step that the rules first forbid, from any state
 pub accepted-up-to-the-first-forbidden-step : (t : Table) (s : State) (rs : List Reading) → Exact t s rs (run t s rs)

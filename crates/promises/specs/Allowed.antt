@@ -1,11 +1,13 @@
 -- Document 01, "The twelve steps", a second time and in its own words: the column "allowed when" as a relation, beside the list of
--- checks that `shift` has. The engine phases, and which of them sync and which zero torque, stand here by their numbers.
+-- checks that `shift` has. Phases and limits are those of `phases/specs/ByPhase.antt`: with the checks it shares nothing but the
+-- fields of a state and of a table.
 -- Assumes nothing.
 use mathlib.Core.Path.{_≡_}
 use mathlib.Core.Logic.{_⊎_}
 use Prim.Native.Nat.{ℕ, _+_, _≤_}
+use Rattle.checks.specs.Conditions.{OneOf}
 use Rattle.limits.specs.declared.Table.{Table}
-use Rattle.phases.specs.Phases.{orderOf, deviceLimit, phaseLimit}
+use Rattle.phases.specs.ByPhase.{enginePhases, deviceLimitIn, phaseLimitIn, exIn, deIn}
 use Rattle.shift.specs.declared.State.{State}
 use Rattle.shift.specs.declared.Reading.{Reading}
 use Rattle.shift.specs.declared.Reading.the-variants.{Means, WrongCode, WrongAmount}
@@ -22,21 +24,16 @@ pub record Listed (s : State) : Type 0 where
 abbrev pub Shifting : State → Type 0
 Shifting s = (1 ≤ s .phase) × (s .phase ≤ 21)
 
-abbrev pub Syncing : State → Type 0
-Syncing s = (s .phase ≡ 1) ⊎ (s .phase ≡ 10)
-
-abbrev pub Zeroing : State → Type 0
-Zeroing s = (s .phase ≡ 6) ⊎ (s .phase ≡ 17)
-
+-- phase 1, 6, 10 or 17
 abbrev pub Engine : State → Type 0
-Engine s = Syncing s ⊎ Zeroing s
+Engine s = OneOf enginePhases (s .phase)
 
 -- in phases 1 to 21 the new clock does not pass stage time + Ch in stages sent and good, stage time + device limit in stage
 -- working, phase time + phase limit in any stage
 pub record InTime (t : Table) (s : State) (now : ℕ) : Type 0 where
   pub channel : (s .stage ≡ 1) ⊎ (s .stage ≡ 3) → now ≤ s .«stage_time» + t .«channel_dl»
-  pub device : s .stage ≡ 2 → now ≤ s .«stage_time» + deviceLimit t (orderOf (s .phase))
-  pub phase : now ≤ s .«phase_time» + phaseLimit t (orderOf (s .phase))
+  pub device : s .stage ≡ 2 → now ≤ s .«stage_time» + deviceLimitIn t (s .phase)
+  pub phase : now ≤ s .«phase_time» + phaseLimitIn t (s .phase)
 
 abbrev pub Allowed : Table → State → Step → Type 0
 Allowed t s FromNeutral = (s .phase ≡ 0) × (s .«gear_box» ≡ 0)
@@ -47,14 +44,9 @@ Allowed t s DeviceGood = Shifting s × (s .stage ≡ 2)
 Allowed t s DeviceFailed = Shifting s × (s .stage ≡ 2) × ¬ Engine s
 Allowed t s EngineWaits = Engine s × (s .stage ≡ 2)
 Allowed t s Take =
-    Shifting s
-    × (s .stage ≡ 3)
-    × (Syncing s → s .clock ≤ s .«phase_time» + t .«sync_ex»)
-    × (Zeroing s → s .clock ≤ s .«phase_time» + t .«zero_ex»)
+    Shifting s × (s .stage ≡ 3) × (Engine s → s .clock ≤ s .«phase_time» + exIn t (s .phase))
 Allowed t s AskClutch =
-    (s .stage ≡ 5)
-    × ((Syncing s × (s .«phase_time» + t .«sync_de» ≤ s .clock))
-    ⊎ (Zeroing s × (s .«phase_time» + t .«zero_de» ≤ s .clock)))
+    Engine s × (s .stage ≡ 5) × (s .«phase_time» + deIn t (s .phase) ≤ s .clock)
 Allowed t s RaiseError = Shifting s × (s .stage ≡ 4)
 Allowed t s Finish = s .phase ≡ 22
 Allowed t s (Tick n) = (s .clock + n ≤ 4294967295) × (Shifting s → InTime t s (s .clock + n))

@@ -1,3 +1,4 @@
 pub mod Allowed
+pub mod Effects
 pub mod Kinds
 pub mod Verdicts
