@@ -35,7 +35,7 @@ clutch-in = from _ 1 21 (omega arith)
 
 -- ---- the engine phases
 -- a phase that a list has is one of it; a phase is one of a list or it is not; what each of a list has, one of it has
-found : (ps : List ℕ) (p : ℕ) → T (has ps p) → OneOf ps p
+pub found : (ps : List ℕ) (p : ℕ) → T (has ps p) → OneOf ps p
 found [] p h = absurd h
 found (q ∷ qs) p h = ⊎-elim (λ e. inl (eqb→eq p q e)) (λ r. inr (found qs p r)) (either (eqb p q) (has qs p) h)
 

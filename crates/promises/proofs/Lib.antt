@@ -1,7 +1,12 @@
+pub mod OneStep
 pub mod Promises
 pub mod Runs
 pub mod Looser
 pub mod Ages
+pub mod PlaceLaws
+pub mod AdmissionLaws
 pub mod Permitted
 pub mod EffectLaws
+pub mod RefusalLaws
+pub mod AnswerLaws
 pub mod Exactly

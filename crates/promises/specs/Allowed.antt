@@ -3,7 +3,7 @@
 -- fields of a state and of a table.
 -- Assumes nothing.
 use mathlib.Core.Path.{_≡_}
-use mathlib.Core.Logic.{_⊎_}
+use mathlib.Core.List.{[], _∷_}
 use Prim.Native.Nat.{ℕ, _+_, _≤_}
 use Rattle.checks.specs.Conditions.{OneOf}
 use Rattle.limits.specs.declared.Table.{Table}
@@ -31,7 +31,7 @@ Engine s = OneOf enginePhases (s .phase)
 -- in phases 1 to 21 the new clock does not pass stage time + Ch in stages sent and good, stage time + device limit in stage
 -- working, phase time + phase limit in any stage
 pub record InTime (t : Table) (s : State) (now : ℕ) : Type 0 where
-  pub channel : (s .stage ≡ 1) ⊎ (s .stage ≡ 3) → now ≤ s .«stage_time» + t .«channel_dl»
+  pub channel : OneOf (1 ∷ 3 ∷ []) (s .stage) → now ≤ s .«stage_time» + t .«channel_dl»
   pub device : s .stage ≡ 2 → now ≤ s .«stage_time» + deviceLimitIn t (s .phase)
   pub phase : now ≤ s .«phase_time» + phaseLimitIn t (s .phase)
 

@@ -1,0 +1,41 @@
+-- Demand 1 of the running judge, as a theorem over what the contract of `munasirel_advance` allows: `Advanced`, which `claimed` shows
+-- to be the contract's own.
+-- Assumes nothing.
+use Prim.Native.Nat.{ℕ, _+_, _*_}
+use contract.Lifetimes.{Lfts}
+use denote.Ref.{now}
+use denote.Triple.Entry.{Args}
+use denote.Triple.Clauses.{AtExit}
+use Rattle.limits.specs.declared.Table.{Table}
+use Rattle.shift.specs.declared.State.{State}
+use Rattle.promises.specs.Refusals.{Answered}
+use Rattle.gateway.proofs.Answers.{a-record}
+use Rattle.munasirel.proofs.munasirel_advance as advance
+use Rattle.munasirel.proofs.Determined.{Advanced}
+
+module _
+    (κs : Lfts 1) (given : Args advance.signature κs) (number : ℕ) (at : AtExit advance.ended κs)
+    (call : Advanced κs given number at) where
+  abbrev pub state : State
+  state = now (given .0)
+
+  abbrev pub table : Table
+  table = given .1 .0
+
+  abbrev pub code : ℕ
+  code = given .1 .1 .0
+
+  abbrev pub middle : ℕ
+  middle = given .1 .1 .1 .0
+
+  abbrev pub amount : ℕ
+  amount = given .1 .1 .1 .1 .0 + 256 * given .1 .1 .1 .1 .1 .0
+
+  abbrev pub state-after : State
+  state-after = now (at .0)
+
+  -- the number is the first whose condition holds, and 0 where none does; refused, the lent state is as it was; accepted, it is the
+  -- one that the step makes of it
+  pub the-running-judge-answers-in-the-document's-words : Answered table state code middle amount number state-after
+  the-running-judge-answers-in-the-document's-words =
+      rw (call .0, call .1) (a-record table state code middle (given .1 .1 .1 .1 .0) (given .1 .1 .1 .1 .1 .0))

@@ -1,0 +1,86 @@
+-- Demand 1 of one step on any given state and table, as theorems over what the contract of `State::step` allows, and over whatever
+-- else is answered as one step is.
+-- Assumes nothing.
+use mathlib.Core.Path.{_≡_, sym, subst, _∙_}
+use mathlib.Core.Logic.{_↔_}
+use mathlib.Core.List.{[], _∷_}
+use Prim.Native.Nat.{ℕ}
+use contract.Lifetimes.{Lfts}
+use denote.Triple.Entry.{Args}
+use denote.Triple.Clauses.{AtExit}
+use Rattle.checks.specs.Conditions.{FirstOf, OneOf}
+use Rattle.checks.proofs.ConditionLaws.{one-of}
+use Rattle.limits.specs.declared.Table.{Table}
+use Rattle.limits.specs.Rules.{brokenRule}
+use Rattle.shift.specs.declared.State.{State}
+use Rattle.shift.specs.declared.Answer.{Answer}
+use Rattle.shift.specs.Answers.{reading}
+use Rattle.shift.proofs.State.step as step-call
+use Rattle.shift.proofs.State.step.Reads as step-reads
+use Rattle.promises.specs.Admission.{rulesStated, Admitted, broken}
+use Rattle.promises.specs.Refusals.{Reads, refusals, Answered}
+use Rattle.promises.proofs.AdmissionLaws.{admitted, first-broken}
+use Rattle.promises.proofs.RefusalLaws.{reads}
+use Rattle.promises.proofs.AnswerLaws.{answered, with-its-rule, the-one, of-a-tick, of-another-step}
+
+-- a table is admitted where the fifteen rules hold, and the rule that is named is the first broken one
+pub admitted-in-the-document's-words : (t : Table) → (brokenRule t ≡ 0) ↔ Admitted t
+admitted-in-the-document's-words = admitted
+
+pub the-rule-is-the-first-broken-one : (t : Table) → FirstOf (broken 1 (rulesStated t)) (brokenRule t)
+the-rule-is-the-first-broken-one = first-broken
+
+-- what a code, a middle byte and an amount mean
+pub read-in-the-document's-words : (code middle amount : ℕ) → Reads code middle amount (reading code middle amount)
+read-in-the-document's-words code middle amount = reads middle amount code
+
+-- ---- whatever the contract of `State::step` allows
+module _
+    (κs : Lfts 0) (given : Args step-call.signature κs) (a : Answer) (at : AtExit step-call.ended κs)
+    (call : step-reads.Post κs given a at) where
+  abbrev pub state : State
+  state = given .0
+
+  abbrev pub table : Table
+  table = given .1 .0
+
+  abbrev pub code : ℕ
+  code = given .1 .1 .0
+
+  abbrev pub amount : ℕ
+  amount = given .1 .1 .1 .0
+
+  -- the number is the first whose condition holds, and 0 where none does; refused, the state is the one given; accepted, it is the
+  -- one that the step makes of it
+  pub a-step-is-answered-in-the-document's-words : Answered table state code 0 amount (a .number) (a .state)
+  a-step-is-answered-in-the-document's-words =
+      subst (λ (q : Answer). Answered table state code 0 amount (q .number) (q .state)) (sym call) (answered table state code 0 amount)
+
+  pub a-step-names-the-first-broken-rule : FirstOf (broken 1 (rulesStated table)) (a .rule)
+  a-step-names-the-first-broken-rule =
+      subst (λ (q : Answer). FirstOf (broken 1 (rulesStated table)) (q .rule)) (sym call) (with-its-rule table state code 0 amount)
+
+-- ---- whatever is answered so
+module _ (t : Table) (s : State) (code middle amount : ℕ) where
+  -- no other answer fits that description
+  pub no-other-answer :
+      (m n : ℕ) (u v : State) → Answered t s code middle amount m u → Answered t s code middle amount n v → (m ≡ n) × (u ≡ v)
+  no-other-answer m n u v x y =
+      let p = the-one t s code middle amount m u x in
+      let q = the-one t s code middle amount n v y in
+      (p .0 ∙ sym (q .0), p .1 ∙ sym (q .1))
+
+  -- the numbers that it can have: of any step, of one that is no tick, and of a tick
+  pub numbers-of-an-answer :
+      (n : ℕ) (u : State) → Answered t s code middle amount n u
+      → OneOf (0 ∷ 4 ∷ 5 ∷ 6 ∷ 7 ∷ 8 ∷ 9 ∷ 10 ∷ 13 ∷ 12 ∷ 11 ∷ []) n
+  numbers-of-an-answer n u x = one-of (refusals t s code middle amount) n (x .first)
+
+  pub numbers-of-a-step :
+      (n : ℕ) (u : State) → Answered t s code middle amount n u → ¬ (code ≡ 12) → OneOf (0 ∷ 4 ∷ 5 ∷ 6 ∷ 7 ∷ 8 ∷ 9 ∷ 10 ∷ []) n
+  numbers-of-a-step n u x o = of-another-step t s middle amount n code o (x .first)
+
+  pub numbers-of-a-tick :
+      (n : ℕ) (u : State) → Answered t s code middle amount n u → code ≡ 12 → OneOf (0 ∷ 4 ∷ 6 ∷ 7 ∷ 13 ∷ 12 ∷ 11 ∷ []) n
+  numbers-of-a-tick n u x e =
+      of-a-tick t s middle amount n (subst (λ (c : ℕ). FirstOf (refusals t s c middle amount) n) e (x .first))

@@ -1,0 +1,292 @@
+-- The number of a step's answer is the first of the document's numbers whose condition, in words, holds.
+-- Assumes nothing.
+use mathlib.Core.Path.{_≡_, refl, sym, subst, _∙_}
+use mathlib.Core.Logic.{inl, inr, ⊎-elim, _↔_}
+use mathlib.Core.Bool.{Bool, true, false, not, cond, _&&_}
+use mathlib.Core.List.{List, [], _∷_, _++_, append-nil}
+use Prim.Native.Nat.{ℕ, _+_, _≤_, _<_}
+use native.Mathlib.Decide.{decLt}
+use native.Mathlib.Omega.{arith}
+use lib.Dec.{T, leb, ltb, eqb, leb→le, le→leb, ltb→lt, eqb→eq}
+use Rattle.checks.specs.Checks.{Check, _!_, first, Holds}
+use Rattle.checks.specs.Conditions.{Condition, _gives_, FirstOf, OneOf}
+use Rattle.checks.proofs.ConditionLaws.{first-of}
+use Rattle.checks.proofs.Tests.{tests, eq→eqb, case, passes, left, right}
+use Rattle.checks.proofs.Ranges.{below}
+use Rattle.limits.specs.declared.Table.{Table}
+use Rattle.phases.proofs.ByPhaseLaws.{each, de-in}
+use Rattle.shift.specs.declared.State.{State}
+use Rattle.shift.specs.declared.Step.{Step}
+use Rattle.shift.specs.declared.Step.the-variants.{FromNeutral, GearToGear, ToNeutral, Deliver, DeviceGood, DeviceFailed, EngineWaits, Take, AskClutch, RaiseError, Finish, Tick}
+use Rattle.shift.specs.declared.Reading.{Reading}
+use Rattle.shift.specs.declared.Reading.the-variants.{Means, WrongCode, WrongAmount}
+use Rattle.shift.specs.Steps.{restsIn, shiftsIn, inEngine, inTakeTime, inAskTime, inTickTime, askBound}
+use Rattle.shift.specs.Answers.{plain, ticking, reading, listed, checks, guard}
+use Rattle.shift.proofs.ReadingLaws.{past-codes}
+use Rattle.promises.specs.Allowed.{Listed, Shifting, Permitted}
+use Rattle.promises.specs.Effects.{codeOf, amountOf}
+use Rattle.promises.specs.Refusals.{NoCode, Formed, Malformed, Reads, placings, byCode, Misplaced, WrongSide, TooEarly, TooLate, PastClock, PastStage, PastPhase}
+use Rattle.promises.proofs.Permitted.{said, meant}
+use Rattle.promises.proofs.PlaceLaws.{both, withinEx, engine-phase, engine-order, in-take-time, too-late, in-channel-time, in-device-time, past-stage, in-phase-time, past-phase}
+
+-- ---- a condition by the checks that test it: one, or several with its number
+test :
+    (b : Bool) (k : ℕ) (P : Type 0) (ws : List Condition) (rest : List Check)
+    → (T b → ¬ P) → (T (not b) → P) → (T b → FirstOf ws (first rest)) → FirstOf ((P gives k) ∷ ws) (first ((b ! k) ∷ rest))
+test true k P ws rest f g r = inr (f tt, r tt)
+test false k P ws rest f g r = inl (g tt, refl)
+
+abbrev only : ℕ → List Check → Bool
+only k [] = true
+only k (c ∷ cs) = eqb (c .number) k && only k cs
+
+several :
+    (cs rest : List Check) (k : ℕ) (P : Type 0) (ws : List Condition)
+    → T (only k cs) → (Holds cs → ¬ P) → (¬ Holds cs → P) → (Holds cs → FirstOf ws (first rest))
+    → FirstOf ((P gives k) ∷ ws) (first (cs ++ rest))
+several [] rest k P ws o f g r = inr (f tt, r tt)
+several (c ∷ cs) rest k P ws o f g r =
+    case (c .ok)
+    (λ e.
+    let ok = passes (c .ok) e in
+    rw e (several cs rest k P ws (right (eqb (c .number) k) (only k cs) o) (λ h. f (ok, h)) (λ n. g (λ h. n (h .1))) (λ h. r (ok, h))))
+    (λ e. rw e (inl (g (λ h. subst T e (h .0)), eqb→eq (c .number) k (left (eqb (c .number) k) (only k cs) o))))
+
+-- ---- what a step is refused with, on the state: 7 and on, 8 and on, 9 and on, 13 and on
+abbrev pub from-13 : Table → State → ℕ → ℕ → List Condition
+from-13 t s code amount =
+    (PastClock s code amount gives 13) ∷ (PastStage t s code amount gives 12) ∷ (PastPhase t s code amount gives 11) ∷ []
+
+abbrev pub from-9 : Table → State → ℕ → ℕ → List Condition
+from-9 t s code amount = (TooEarly t s code gives 9) ∷ (TooLate t s code gives 10) ∷ from-13 t s code amount
+
+abbrev pub from-8 : Table → State → ℕ → ℕ → List Condition
+from-8 t s code amount = (WrongSide s code gives 8) ∷ from-9 t s code amount
+
+abbrev pub from-7 : Table → State → ℕ → ℕ → List Condition
+from-7 t s code amount = (Misplaced s code gives 7) ∷ from-8 t s code amount
+
+module _ (t : Table) (s : State) (amount : ℕ) where
+  -- no request, no tick, nothing that has its time
+  pub no-request : (code : ℕ) → 4 ≤ code → ¬ WrongSide s code
+  no-request code l h =
+      ⊎-elim
+      (λ e. let q = e .0 in omega arith)
+      (λ e. let q = each (λ k. k ≤ 3) (2 ∷ 3 ∷ []) (omega arith) code (e .0) in omega arith)
+      (h .1)
+
+  no-tick : (code : ℕ) → ¬ (code ≡ 12) → FirstOf (from-13 t s code amount) 0
+  no-tick code n = inr (λ h. n (h .0), inr (λ h. n (h .0), inr (λ h. n (h .0), refl)))
+
+  untimed : (code : ℕ) → ¬ (code ≡ 8) × ¬ (code ≡ 9) × ¬ (code ≡ 12) → FirstOf (from-9 t s code amount) 0
+  untimed code n = inr (λ h. n .1 (h .0), inr (λ h. n .0 (h .0), no-tick code (n .2)))
+
+  -- deliver, device good, device failed, engine waits, raise error and finish: 7
+  placed :
+      (code : ℕ) (x : Step) → T (only 7 (checks t s (Means x)))
+      → (Permitted t s (Means x) ↔ (Listed s × byCode (placings s) code))
+      → (4 ≤ code) × ¬ (code ≡ 8) × ¬ (code ≡ 9) × ¬ (code ≡ 12)
+      → FirstOf (from-7 t s code amount) (guard t s (Means x))
+  placed code x o same n =
+      let own = checks t s (Means x) in
+      subst (λ (cs : List Check). FirstOf (from-7 t s code amount) (first cs)) (append-nil own)
+      (several own [] 7 (Misplaced s code) (from-8 t s code amount) o
+      (λ h m. m (same .0 (said t s x h)))
+      (λ h p. h (meant t s x (same .1 p)))
+      (λ h. inr (no-request code (n .0), untimed code (n .1, n .2, n .3))))
+
+  -- the requests: 7 and 8
+  request :
+      (code side : ℕ) → code ≤ 3
+      → byCode (placings s) code ↔ (s .phase ≡ 0)
+      → ((s .phase ≡ 0) × ¬ (s .«gear_box» ≡ side)) ↔ WrongSide s code
+      → FirstOf (from-7 t s code amount) (first (listed s ++ restsIn s side))
+  request code side l same wrong =
+      several (listed s ++ ((eqb (s .phase) 0 ! 7) ∷ [])) ((eqb (s .«gear_box») side ! 8) ∷ []) 7 (Misplaced s code) (from-8 t s code amount) tt
+      (λ h m. m (omega (arith, tests), same .1 (omega (arith, tests))))
+      (λ n p. n (let a = p .0 in let b = same .0 (p .1) in omega (arith, tests)))
+      (λ h.
+      test (eqb (s .«gear_box») side) 8 (WrongSide s code) (from-9 t s code amount) []
+      (λ b w. let v = wrong .1 w .1 in v (eqb→eq (s .«gear_box») side b))
+      (λ b. wrong .0 (omega (arith, tests), omega (arith, tests)))
+      (λ b. untimed code (omega arith)))
+
+  -- take: 7 and 10
+  take : FirstOf (from-7 t s 8 amount) (guard t s (Means Take))
+  take =
+      several (listed s ++ shiftsIn s 3) (inTakeTime t s) 7 (Misplaced s 8) (from-8 t s 8 amount) tt
+      (λ h m. m (omega (arith, tests)))
+      (λ n p. n (omega (arith, tests)))
+      (λ h.
+      let z : Shifting s = omega (arith, tests) in
+      inr (
+        no-request 8 (omega arith),
+        inr (
+          λ w. absurd (omega arith),
+          test (withinEx t s) 10 (TooLate t s 8) (from-13 t s 8 amount) []
+              (λ b w. let l = in-take-time t s b (w .1) in let m = w .2 in omega arith)
+              (λ b. let w = too-late t s z b in (refl, w .0, w .1))
+              (λ b. no-tick 8 (omega arith)),
+        ),
+      ))
+
+  -- ask clutch: 7 and 9
+  ask : FirstOf (from-7 t s 9 amount) (guard t s (Means AskClutch))
+  ask =
+      several (listed s ++ (shiftsIn s 5 ++ inEngine s)) (inAskTime t s) 7 (Misplaced s 9) (from-8 t s 9 amount) tt
+      (λ h m. m (omega (arith, tests), (engine-phase s (omega (arith, tests)) (omega (arith, tests)), omega (arith, tests))))
+      (λ n p. n (let o = engine-order s (p .1 .0) in omega (arith, tests)))
+      (λ h.
+      let z : Shifting s = omega (arith, tests) in
+      let de = de-in t (s .phase) (z .0) (omega arith) in
+      inr (
+        no-request 9 (omega arith),
+        test (leb (askBound t s) (s .clock)) 9 (TooEarly t s 9) ((TooLate t s 9 gives 10) ∷ from-13 t s 9 amount) []
+            (λ b w. let early = w .1 in omega (arith, tests))
+            (λ b. (refl, omega (arith, tests)))
+            (λ b. inr (λ w. absurd (omega arith), no-tick 9 (omega arith))),
+      ))
+
+  -- a tick: 7, 13, 12 and 11
+  tick : FirstOf (from-7 t s 12 amount) (guard t s (Means (Tick amount)))
+  tick =
+      let now = s .clock + amount in
+      several (listed s) (inTickTime t s now) 7 (Misplaced s 12) (from-8 t s 12 amount) tt
+      (λ h m. m (omega (arith, tests), tt))
+      (λ n p. n (let l = p .0 in omega (arith, tests)))
+      (λ h.
+      inr (
+        no-request 12 (omega arith),
+        inr (
+          λ w. absurd (omega arith),
+          inr (
+            λ w. absurd (omega arith),
+            first-of (inTickTime t s now) (from-13 t s 12 amount) (
+              (λ b. (refl, omega (arith, tests)), (λ b w. let l = w .1 in omega (arith, tests), refl)),
+              (
+                (
+                  λ b. let w = past-stage t s now b in (refl, w .0, w .1),
+                  (
+                    λ b w.
+                        ⊎-elim
+                        (λ q. let l = in-channel-time t s now b (w .1) (q .0) in let m = q .1 in omega arith)
+                        (λ q. let l = in-device-time t s now b (w .1) (q .0) in let m = q .1 in omega arith)
+                        (w .2),
+                    refl,
+                  ),
+                ),
+                (
+                  (
+                    λ b. let w = past-phase t s now b in (refl, w .0, w .1),
+                    (λ b w. let l = in-phase-time t s now b (w .1) in let m = w .2 in omega arith, refl),
+                  ),
+                  tt,
+                ),
+              ),
+            ),
+          ),
+        ),
+      ))
+
+-- ---- by step
+module _ (s : State) where
+  not-neutral : ((s .phase ≡ 0) × ¬ (s .«gear_box» ≡ 0)) ↔ WrongSide s 1
+  not-neutral = (
+    λ p. (p .0, inl (refl, p .1)),
+    λ w. (w .0, ⊎-elim (λ e. e .1) (λ e. absurd (let l = each (λ k. 2 ≤ k) (2 ∷ 3 ∷ []) (omega arith) 1 (e .0) in omega arith)) (w .1)),
+  )
+
+  not-in-gear : (code : ℕ) → OneOf (2 ∷ 3 ∷ []) code → ((s .phase ≡ 0) × ¬ (s .«gear_box» ≡ 1)) ↔ WrongSide s code
+  not-in-gear code o =
+      let l = each (λ k. 2 ≤ k) (2 ∷ 3 ∷ []) (omega arith) code o in
+      (λ p. (p .0, inr (o, p .1)), λ w. (w .0, ⊎-elim (λ e. absurd (let q = e .0 in omega arith)) (λ e. e .1) (w .1)))
+
+on-state : (t : Table) (s : State) (x : Step) → FirstOf (from-7 t s (codeOf x) (amountOf x)) (guard t s (Means x))
+on-state t s FromNeutral = request t s 0 1 0 (omega arith) (λ p. p, λ p. p) (not-neutral s)
+on-state t s GearToGear = request t s 0 2 1 (omega arith) (λ p. p, λ p. p) (not-in-gear s 2 (inl refl))
+on-state t s ToNeutral = request t s 0 3 1 (omega arith) (λ p. p, λ p. p) (not-in-gear s 3 (inr (inl refl)))
+on-state t s Deliver = placed t s 0 4 Deliver tt (λ p. p, λ p. p) (omega arith)
+on-state t s DeviceGood = placed t s 0 5 DeviceGood tt (λ p. p, λ p. p) (omega arith)
+on-state t s DeviceFailed = placed t s 0 6 DeviceFailed tt (λ p. p, λ p. p) (omega arith)
+on-state t s EngineWaits = placed t s 0 7 EngineWaits tt (λ p. p, λ p. p) (omega arith)
+on-state t s Take = take t s 0
+on-state t s AskClutch = ask t s 0
+on-state t s RaiseError = placed t s 0 10 RaiseError tt (λ p. p, λ p. p) (omega arith)
+on-state t s Finish = placed t s 0 11 Finish tt (λ p. p, λ p. p) (omega arith)
+on-state t s (Tick n) = tick t s n
+
+-- ---- by what was read
+abbrev pub from-5 : Table → State → ℕ → ℕ → ℕ → List Condition
+from-5 t s code middle amount = (NoCode code gives 5) ∷ (Malformed code middle amount gives 6) ∷ from-7 t s code amount
+
+module _ (t : Table) (s : State) (code middle amount : ℕ) where
+  pub of-reading : (r : Reading) → Reads code middle amount r → FirstOf (from-5 t s code middle amount) (guard t s r)
+  of-reading (Means x) h =
+      inr (
+        h .0,
+        inr (
+          λ n. n (h .1),
+          subst (λ (c : ℕ). FirstOf (from-7 t s c amount) (guard t s (Means x))) (h .2)
+              (subst (λ (n : ℕ). FirstOf (from-7 t s (codeOf x) n) (guard t s (Means x))) (h .3) (on-state t s x)),
+        ),
+      )
+  of-reading WrongCode h = inl (h, refl)
+  of-reading WrongAmount h = inr (h .0, inl (h .1, refl))
+
+-- ---- what is read
+pub a-code : (code : ℕ) → 1 ≤ code → code ≤ 12 → ¬ NoCode code
+a-code code l m h = ⊎-elim (λ e. omega arith) (λ e. omega arith) h
+
+module _ (middle amount : ℕ) where
+  of-test :
+      (b : Bool) (code : ℕ) (x : Step) → ¬ NoCode code → (T b → Formed code middle amount) → (Formed code middle amount → T b)
+      → codeOf x ≡ code → (T b → amountOf x ≡ amount)
+      → Reads code middle amount (cond b (Means x) WrongAmount)
+  of-test true code x k f g c n = (k, f tt, c, n tt)
+  of-test false code x k f g c n = (k, g)
+
+  of-plain : (x : Step) → T (ltb (codeOf x) 12 && (leb 1 (codeOf x) && eqb (amountOf x) 0)) → Reads (codeOf x) middle amount (plain x middle amount)
+  of-plain x o =
+      let code = codeOf x in
+      let rest = right (ltb code 12) (leb 1 code && eqb (amountOf x) 0) o in
+      let high = ltb→lt code 12 (left (ltb code 12) (leb 1 code && eqb (amountOf x) 0) o) in
+      let low = leb→le 1 code (left (leb 1 code) (eqb (amountOf x) 0) rest) in
+      let none = eqb→eq (amountOf x) 0 (right (leb 1 code) (eqb (amountOf x) 0) rest) in
+      let m = eqb middle 0 in
+      let a = eqb amount 0 in
+      of-test (m && a) code x (a-code code low (omega arith))
+      (λ h. record {
+        middle-byte = eqb→eq middle 0 (left m a h);
+        plain = λ _. eqb→eq amount 0 (right m a h);
+        tick = λ e. absurd (omega arith);
+      })
+      (λ f. both m a (eq→eqb middle 0 (f .middle-byte)) (eq→eqb amount 0 (f .plain (omega arith))))
+      refl
+      (λ h. none ∙ sym (eqb→eq amount 0 (right m a h)))
+
+  of-tick : Reads 12 middle amount (ticking middle amount)
+  of-tick =
+      let m = eqb middle 0 in
+      let low = leb 1 amount in
+      let high = leb amount 65535 in
+      of-test (m && (low && high)) 12 (Tick amount) (a-code 12 (omega arith) (omega arith))
+      (λ h. record {
+        middle-byte = eqb→eq middle 0 (left m (low && high) h);
+        plain = λ l. absurd (omega arith);
+        tick = λ _. let r = right m (low && high) h in (leb→le 1 amount (left low high r), leb→le amount 65535 (right low high r));
+      })
+      (λ f. let r = f .tick refl in both m (low && high) (eq→eqb middle 0 (f .middle-byte)) (both low high (le→leb 1 amount (r .0)) (le→leb amount 65535 (r .1))))
+      refl
+      (λ h. refl)
+
+  by-code : (code : ℕ) → code < 13 → Reads code middle amount (reading code middle amount)
+  by-code =
+      below (λ code. Reads code middle amount (reading code middle amount)) 13
+      (((((((((((((tt, inl refl), of-plain FromNeutral tt), of-plain GearToGear tt), of-plain ToNeutral tt), of-plain Deliver tt), of-plain DeviceGood tt), of-plain DeviceFailed tt), of-plain EngineWaits tt), of-plain Take tt), of-plain AskClutch tt), of-plain RaiseError tt), of-plain Finish tt), of-tick)
+
+  pub reads : (code : ℕ) → Reads code middle amount (reading code middle amount)
+  reads code =
+      elim (decLt code 13) [
+        | yes h ↦ by-code code h
+        | no h ↦ rw (past-codes middle amount code (omega arith)) (inr (omega arith))
+      ]

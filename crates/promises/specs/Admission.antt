@@ -1,0 +1,66 @@
+-- Document 01, "The limit table", a second time: the fifteen rules as statements, when a table is admitted, and which rule it breaks.
+-- With the tests of `limits` it shares nothing but the fields of a table.
+-- Assumes nothing.
+use mathlib.Core.List.{List, [], _∷_}
+use Prim.Native.Nat.{ℕ, suc, _+_, _*_, _≤_, _<_}
+use Rattle.checks.specs.Conditions.{Condition, _gives_}
+use Rattle.limits.specs.declared.Table.{Table}
+
+-- all of a list of statements
+abbrev pub All : List (Type 0) → Type 0
+All [] = Unit {0}
+All (P ∷ Ps) = P × All Ps
+
+-- rule 1: every entry is at least 1
+abbrev pub positive : Table → List (Type 0)
+positive t =
+    (1 ≤ t .«channel_dl»)
+    ∷ (1 ≤ t .«engine_sync_dl»)
+    ∷ (1 ≤ t .«engine_zero_dl»)
+    ∷ (1 ≤ t .«clutch_open_dl»)
+    ∷ (1 ≤ t .«clutch_close_dl»)
+    ∷ (1 ≤ t .«gear_set_dl»)
+    ∷ (1 ≤ t .«gear_release_dl»)
+    ∷ (1 ≤ t .«sync_ex»)
+    ∷ (1 ≤ t .«zero_ex»)
+    ∷ (1 ≤ t .«sync_dl»)
+    ∷ (1 ≤ t .«zero_dl»)
+    ∷ (1 ≤ t .«sync_de»)
+    ∷ (1 ≤ t .«zero_de»)
+    ∷ (1 ≤ t .«open_clutch_dl»)
+    ∷ (1 ≤ t .«set_gear_dl»)
+    ∷ (1 ≤ t .«release_dl»)
+    ∷ (1 ≤ t .«close_clutch_dl»)
+    ∷ (1 ≤ t .«change_dl»)
+    ∷ []
+
+-- rules 1 to 15
+abbrev pub rulesStated : Table → List (Type 0)
+rulesStated t =
+    let ch = t .«channel_dl» in
+    let change = t .«change_dl» in
+    let f = t .«sync_dl» + t .«open_clutch_dl» + t .«set_gear_dl» + t .«close_clutch_dl» in
+    All (positive t)
+    ∷ (2 * ch + t .«engine_sync_dl» ≤ t .«sync_ex»)
+    ∷ (2 * ch + t .«engine_zero_dl» ≤ t .«zero_ex»)
+    ∷ (2 * ch + t .«clutch_open_dl» < t .«open_clutch_dl»)
+    ∷ (2 * ch + t .«clutch_close_dl» < t .«close_clutch_dl»)
+    ∷ (2 * ch + t .«gear_set_dl» < t .«set_gear_dl»)
+    ∷ (2 * ch + t .«gear_release_dl» < t .«release_dl»)
+    ∷ (t .«sync_ex» < t .«sync_de»)
+    ∷ (t .«zero_ex» < t .«zero_de»)
+    ∷ (t .«sync_de» ≤ t .«sync_dl»)
+    ∷ (t .«zero_de» ≤ t .«zero_dl»)
+    ∷ (f ≤ change)
+    ∷ (t .«zero_dl» + t .«open_clutch_dl» + t .«release_dl» + t .«close_clutch_dl» ≤ change)
+    ∷ (t .«zero_ex» + t .«release_dl» + f ≤ change)
+    ∷ (t .«zero_dl» + t .«open_clutch_dl» + t .«release_dl» + t .«set_gear_dl» + t .«close_clutch_dl» ≤ change)
+    ∷ []
+
+abbrev pub Admitted : Table → Type 0
+Admitted t = All (rulesStated t)
+
+-- the rules that are broken, numbered from n on
+abbrev pub broken : ℕ → List (Type 0) → List Condition
+broken n [] = []
+broken n (P ∷ Ps) = _gives_ (¬ P) n ∷ broken (suc n) Ps

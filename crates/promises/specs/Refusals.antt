@@ -1,0 +1,119 @@
+-- Document 01, "Numbers for what is refused", a second time: of one step on any given state and table the condition of each number, in
+-- the document's words and by the numbers of codes, phases and stages, and what is answered. With the checks of `shift` it shares
+-- nothing but the fields of a state and of a table.
+-- Assumes nothing.
+use mathlib.Core.Path.{_≡_}
+use mathlib.Core.Logic.{_⊎_}
+use mathlib.Core.List.{List, [], _∷_}
+use Prim.Native.Nat.{ℕ, zero, suc, _+_, _≤_, _<_}
+use Rattle.checks.specs.Conditions.{Condition, _gives_, FirstOf, OneOf}
+use Rattle.limits.specs.declared.Table.{Table}
+use Rattle.phases.specs.ByPhase.{deviceLimitIn, phaseLimitIn, exIn, deIn}
+use Rattle.shift.specs.declared.State.{State}
+use Rattle.shift.specs.declared.Step.{Step}
+use Rattle.shift.specs.declared.Reading.{Reading}
+use Rattle.shift.specs.declared.Reading.the-variants.{Means, WrongCode, WrongAmount}
+use Rattle.promises.specs.Admission.{Admitted}
+use Rattle.promises.specs.Allowed.{Listed, Shifting, Engine}
+use Rattle.promises.specs.Effects.{Effect, codeOf, amountOf}
+
+-- 4: the table breaks a rule
+abbrev pub NotAdmitted : Table → Type 0
+NotAdmitted t = ¬ Admitted t
+
+-- 5: code 0 or above 12
+abbrev pub NoCode : ℕ → Type 0
+NoCode code = (code ≡ 0) ⊎ (12 < code)
+
+-- 6: the middle byte is not 0, or the amount is not 0 for codes 1 to 11, not 1 to 65,535 for code 12
+pub record Formed (code middle amount : ℕ) : Type 0 where
+  pub middle-byte : middle ≡ 0
+  pub plain : code ≤ 11 → amount ≡ 0
+  pub tick : code ≡ 12 → (1 ≤ amount) × (amount ≤ 65535)
+
+abbrev pub Malformed : ℕ → ℕ → ℕ → Type 0
+Malformed code middle amount = ¬ Formed code middle amount
+
+-- 7: the state is not listed, or its phase or its stage does not allow the step; which do, by code from 0
+abbrev pub placings : State → List (Type 0)
+placings s =
+    Unit {0}
+    ∷ (s .phase ≡ 0)  -- 1 request from neutral
+    ∷ (s .phase ≡ 0)  -- 2 gear to gear
+    ∷ (s .phase ≡ 0)  -- 3 to neutral
+    ∷ (Shifting s × (s .stage ≡ 1))  -- 4 deliver
+    ∷ (Shifting s × (s .stage ≡ 2))  -- 5 device good
+    ∷ (Shifting s × (s .stage ≡ 2) × ¬ Engine s)  -- 6 device failed
+    ∷ (Engine s × (s .stage ≡ 2))  -- 7 engine waits for clutch
+    ∷ (Shifting s × (s .stage ≡ 3))  -- 8 take
+    ∷ (Engine s × (s .stage ≡ 5))  -- 9 ask clutch
+    ∷ (Shifting s × (s .stage ≡ 4))  -- 10 raise error
+    ∷ (s .phase ≡ 22)  -- 11 finish
+    ∷ Unit {0}  -- 12 tick
+    ∷ []
+
+abbrev pub byCode : List (Type 0) → ℕ → Type 0
+byCode [] i = Unit {0}
+byCode (P ∷ Ps) zero = P
+byCode (P ∷ Ps) (suc i) = byCode Ps i
+
+abbrev pub Misplaced : State → ℕ → Type 0
+Misplaced s code = ¬ (Listed s × byCode (placings s) code)
+
+-- 8: at rest, but the box is not neutral for 1, not in gear for 2 and 3
+abbrev pub WrongSide : State → ℕ → Type 0
+WrongSide s code =
+    (s .phase ≡ 0) × (((code ≡ 1) × ¬ (s .«gear_box» ≡ 0)) ⊎ (OneOf (2 ∷ 3 ∷ []) code × ¬ (s .«gear_box» ≡ 1)))
+
+-- 9: ask clutch too early
+abbrev pub TooEarly : Table → State → ℕ → Type 0
+TooEarly t s code = (code ≡ 9) × (s .clock < s .«phase_time» + deIn t (s .phase))
+
+-- 10: take too late
+abbrev pub TooLate : Table → State → ℕ → Type 0
+TooLate t s code = (code ≡ 8) × Engine s × (s .«phase_time» + exIn t (s .phase) < s .clock)
+
+-- 13: the clock would pass its largest value
+abbrev pub PastClock : State → ℕ → ℕ → Type 0
+PastClock s code amount = (code ≡ 12) × (4294967295 < s .clock + amount)
+
+-- 12: a tick past the channel's limit in stages sent and good, past the device's in stage working
+abbrev pub PastStage : Table → State → ℕ → ℕ → Type 0
+PastStage t s code amount =
+    (code ≡ 12)
+    × Shifting s
+    × ((OneOf (1 ∷ 3 ∷ []) (s .stage) × (s .«stage_time» + t .«channel_dl» < s .clock + amount))
+    ⊎ ((s .stage ≡ 2) × (s .«stage_time» + deviceLimitIn t (s .phase) < s .clock + amount)))
+
+-- 11: a tick past the phase limit
+abbrev pub PastPhase : Table → State → ℕ → ℕ → Type 0
+PastPhase t s code amount =
+    (code ≡ 12) × Shifting s × (s .«phase_time» + phaseLimitIn t (s .phase) < s .clock + amount)
+
+-- in the order of one step, 4 to 10, and of a tick, 4 to 7, 13, 12 and 11
+abbrev pub refusals : Table → State → ℕ → ℕ → ℕ → List Condition
+refusals t s code middle amount =
+    (NotAdmitted t gives 4)
+    ∷ (NoCode code gives 5)
+    ∷ (Malformed code middle amount gives 6)
+    ∷ (Misplaced s code gives 7)
+    ∷ (WrongSide s code gives 8)
+    ∷ (TooEarly t s code gives 9)
+    ∷ (TooLate t s code gives 10)
+    ∷ (PastClock s code amount gives 13)
+    ∷ (PastStage t s code amount gives 12)
+    ∷ (PastPhase t s code amount gives 11)
+    ∷ []
+
+-- ---- what a code, a middle byte and an amount mean
+abbrev pub Reads : ℕ → ℕ → ℕ → Reading → Type 0
+Reads code middle amount (Means x) = ¬ NoCode code × Formed code middle amount × (codeOf x ≡ code) × (amountOf x ≡ amount)
+Reads code middle amount WrongCode = NoCode code
+Reads code middle amount WrongAmount = ¬ NoCode code × Malformed code middle amount
+
+-- ---- an answer to one step: the number of the first condition that holds, or 0 where none does; refused, the state is the one given;
+-- accepted, it is the one that the step of this code and this amount makes of it
+pub record Answered (t : Table) (s : State) (code middle amount number : ℕ) (s′ : State) : Type 0 where
+  pub first : FirstOf (refusals t s code middle amount) number
+  pub refused : ¬ (number ≡ 0) → s′ ≡ s
+  pub accepted : number ≡ 0 → (x : Step) × (codeOf x ≡ code) × (amountOf x ≡ amount) × Effect s x s′
