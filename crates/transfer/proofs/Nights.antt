@@ -1,19 +1,17 @@
 -- A night: whatever arrived before, a block that comes again under its true offset changes nothing, and one that begins beyond
 -- the held bytes is refused with 14.
 -- Assumes nothing.
-use mathlib.Core.Path.{_≡_, refl, sym, ap, subst, _∙_}
+use mathlib.Core.Path.{_≡_, refl, sym, ap, _∙_}
 use mathlib.Core.List.{List, [], _∷_, _++_}
 use Prim.Native.Nat.{ℕ, _+_, _-_, _≤_, _<_}
 use native.Mathlib.Omega.{arith}
-use lib.Dec.{eqb}
 use lib.ListN.{length, take, drop, length-append}
 use lib.Seq.{take-at, take-take, take-length, drop-append-seam, length-take-le}
-use borrow.Author.Tests.{eqb-true}
-use Rattle.checks.proofs.Tests.{tests, case}
+use Rattle.checks.proofs.Tests.{tests}
 use Rattle.transfer.specs.Transfers.{Arrival, Store, empty, answer, after, afterAll, Keeps, Cut, AcceptedCut, Begins, fortySteps, holding, under}
 use Rattle.transfer.proofs.JoinLaws.{refused-at, inside, count-inside, appended-inside, length-appended}
 use Rattle.transfer.proofs.CutLaws.{drop-take}
-use Rattle.transfer.proofs.Transfers.{grown, refused-keeps, accepted-grows, accepted-holds, beyond-refused, cut-accepted, beginning}
+use Rattle.transfer.proofs.Transfers.{grown, refused-keeps, accepted-grows, either-way, accepted-holds, beyond-refused, cut-accepted, beginning}
 
 -- ---- a block that comes again, and one that comes too early
 module _ (s : Store) (a : Arrival) (fits : s .held ≤ length (s .buffer)) where
@@ -50,12 +48,7 @@ grown-fits s a e =
     rw (length-appended (s .buffer) (s .held) (a .offset) (a .part) in-buffer in-held end) (omega arith)
 
 after-fits : (s : Store) (a : Arrival) → s .held ≤ length (s .buffer) → after s a .held ≤ length (after s a .buffer)
-after-fits s a h =
-    case (eqb (answer s a .number) 0)
-    (λ z.
-    let e = eqb-true (answer s a .number) 0 z in
-    subst (λ (x : Store). x .held ≤ length (x .buffer)) (sym (accepted-grows s a e)) (grown-fits s a e))
-    (λ z. subst (λ (x : Store). x .held ≤ length (x .buffer)) (sym (refused-keeps s a z)) h)
+after-fits s a h = either-way s a (λ x. x .held ≤ length (x .buffer)) (grown-fits s a) h
 
 all-fit :
     (s : Store) (arrivals : List Arrival) → s .held ≤ length (s .buffer)

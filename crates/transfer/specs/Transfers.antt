@@ -1,10 +1,9 @@
 -- Document 01, "Step files, parts and writing": the parts of a file arrive one after the other and are joined in one buffer.
 -- Assumes nothing.
 use mathlib.Core.Path.{_≡_}
-use mathlib.Core.Bool.{cond}
+use mathlib.Core.Logic.{_⊎_}
 use mathlib.Core.List.{List, [], _∷_, _++_}
 use Prim.Native.Nat.{ℕ, zero, suc, _+_, _≤_, max}
-use lib.Dec.{leb}
 use lib.ListN.{length, take, drop}
 use Rattle.transfer.specs.declared.Joined.{Joined}
 use Rattle.transfer.specs.Join.{joined, bufferAfter}
@@ -47,11 +46,7 @@ pub record Cut (file : List ℕ) (a : Arrival) : Type 0 where
   pub within : a .offset + length (a .part) ≤ length file
   pub bytes : a .part ≡ take (length (a .part)) (drop (a .offset) file)
 
--- every part is; every part that is accepted is
-abbrev pub AllCut : List ℕ → List Arrival → Type 0
-AllCut file [] = Unit {0}
-AllCut file (a ∷ arrivals) = Cut file a × AllCut file arrivals
-
+-- every part that is accepted is; what is refused may be anything
 abbrev pub AcceptedCut : List ℕ → Store → List Arrival → Type 0
 AcceptedCut file s [] = Unit {0}
 AcceptedCut file s (a ∷ arrivals) = (answer s a .number ≡ 0 → Cut file a) × AcceptedCut file (after s a) arrivals
@@ -61,16 +56,13 @@ pub record Begins (file : List ℕ) (s : Store) : Type 0 where
   pub within : s .held ≤ length file
   pub bytes : take (s .held) (s .buffer) ≡ take (s .held) file
 
--- how far parts reach from `end` on without a gap, in the order in which they arrive: one that begins beyond what is reached adds
--- nothing
-abbrev pub reached : ℕ → List Arrival → ℕ
-reached end [] = end
-reached end (a ∷ arrivals) = reached (cond (leb (a .offset) end) (max end (a .offset + length (a .part))) end) arrivals
-
--- the parts cover a file of `size` bytes from `end` on, in order of offset: none begins beyond what those before it reach
-abbrev pub Cover : ℕ → ℕ → List Arrival → Type 0
-Cover size end [] = end ≡ size
-Cover size end (a ∷ arrivals) = (a .offset ≤ end) × Cover size (max end (a .offset + length (a .part))) arrivals
+-- some of the parts reach from `end` to `far` without a gap, in the order in which they arrive: they are cut from the file, and none
+-- of them begins beyond what those before it reach. The others may be anything.
+abbrev pub Reaches : List ℕ → ℕ → ℕ → List Arrival → Type 0
+Reaches file end far [] = end ≡ far
+Reaches file end far (a ∷ arrivals) =
+    (Cut file a × (a .offset ≤ end) × Reaches file (max end (a .offset + length (a .part))) far arrivals)
+    ⊎ Reaches file end far arrivals
 
 -- a block that is the last of the bytes held, and a block under an offset
 abbrev pub holding : List ℕ → List ℕ → List ℕ → Store
