@@ -1,2 +1,3 @@
 pub mod Join
+pub mod Refusals
 pub mod Transfers
