@@ -1,3 +1,4 @@
 pub mod Decimal
 pub mod LineLaws
+pub mod Refusals
 pub mod Determined
