@@ -1,15 +1,15 @@
 -- Laws on conditions: a list of checks that test them one by one answers the number of the first that holds; there is no other such
--- number; and it is one of the list's, or 0.
+-- number; it is one of the list's, or 0; and how it is found in a list of two parts.
 -- Assumes nothing.
 use mathlib.Core.Path.{_≡_, refl, sym, _∙_}
-use mathlib.Core.Logic.{_⊎_, inl, inr, ⊎-elim}
-use mathlib.Core.Bool.{true, false, cond, not}
-use mathlib.Core.List.{List, [], _∷_, map}
+use mathlib.Core.Logic.{inl, inr, ⊎-elim}
+use mathlib.Core.Bool.{Bool, true, not, _&&_}
+use mathlib.Core.List.{List, [], _∷_, _++_, map}
 use Prim.Native.Nat.{ℕ}
-use lib.Dec.{T}
+use lib.Dec.{T, eqb}
 use Rattle.checks.specs.Checks.{Check, first}
 use Rattle.checks.specs.Conditions.{Condition, FirstOf, OneOf}
-use Rattle.checks.proofs.Tests.{case, passes}
+use Rattle.checks.proofs.Tests.{case, passes, left, right, neqb→ne}
 
 -- each check tests its condition: it fails where the condition holds, and passes where it does not
 abbrev pub Tested : List Check → List Condition → Type 0
@@ -44,4 +44,22 @@ one-of (w ∷ ws) n f =
     ⊎-elim
     (λ a. inr (inl (a .1)))
     (λ a. ⊎-elim (λ z. inl z) (λ r. inr (inr r)) (one-of ws n (a .1)))
+    f
+
+-- ---- a list in two parts: the number of the first part where it is not 0, else that of the second
+pub of-left : (ws vs : List Condition) (n : ℕ) → ¬ (n ≡ 0) → FirstOf ws n → FirstOf (ws ++ vs) n
+of-left [] vs n z f = absurd (z f)
+of-left (w ∷ ws) vs n z f = ⊎-elim (λ a. inl a) (λ a. inr (a .0, of-left ws vs n z (a .1))) f
+
+-- no condition of the list gives 0
+abbrev pub allNumbered : List Condition → Bool
+allNumbered [] = true
+allNumbered (w ∷ ws) = not (eqb (w .number) 0) && allNumbered ws
+
+pub of-right : (ws vs : List Condition) (n : ℕ) → T (allNumbered ws) → FirstOf ws 0 → FirstOf vs n → FirstOf (ws ++ vs) n
+of-right [] vs n t f g = g
+of-right (w ∷ ws) vs n t f g =
+    ⊎-elim
+    (λ a. absurd (neqb→ne (w .number) 0 (left (not (eqb (w .number) 0)) (allNumbered ws) t) (sym (a .1))))
+    (λ a. inr (a .0, of-right ws vs n (right (not (eqb (w .number) 0)) (allNumbered ws) t) (a .1) g))
     f

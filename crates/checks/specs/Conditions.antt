@@ -15,6 +15,11 @@ infixr 40 _gives_
 abbrev pub _gives_ : Type 0 → ℕ → Condition
 P gives n = record { holds = P; number = n }
 
+-- what has to hold, and the number that is given where it does not
+infixr 40 _else_
+abbrev pub _else_ : Type 0 → ℕ → Condition
+P else n = (¬ P) gives n
+
 -- n is the number of the first condition that holds, and 0 where none does
 abbrev pub FirstOf : List Condition → ℕ → Type 0
 FirstOf [] n = n ≡ 0

@@ -3,14 +3,9 @@
 -- Assumes nothing.
 use mathlib.Core.List.{List, [], _∷_}
 use Prim.Native.Nat.{ℕ, _+_, _*_, _≤_, _<_}
-use Rattle.checks.specs.Conditions.{Condition, _gives_, FirstOf}
+use Rattle.checks.specs.Conditions.{Condition, _else_, FirstOf}
 use Rattle.limits.specs.declared.Table.{Table}
 use Rattle.limits.specs.Limits.{entry}
-
--- a rule, and the number that is given where it is broken
-infixr 40 _else_
-abbrev pub _else_ : Type 0 → ℕ → Condition
-rule else n = (¬ rule) gives n
 
 abbrev pub broken : Table → List Condition
 broken t =
