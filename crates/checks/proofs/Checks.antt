@@ -2,14 +2,15 @@
 -- Assumes nothing.
 use mathlib.Core.Path.{_≡_, refl, sym, _∙_}
 use mathlib.Core.Bool.{Bool, true, false, not, _&&_, cond}
+use mathlib.Core.Logic.{_⊎_, inl, inr, ⊎-elim}
 use mathlib.Core.List.{List, [], _∷_, _++_, append-nil}
 use Prim.Native.Nat.{ℕ, zero, suc, _≤_}
 use native.Mathlib.Decide.{decLt}
 use native.Mathlib.Omega.{arith}
-use lib.Dec.{T, leb, ltb, eqb}
+use lib.Dec.{T, leb, ltb, eqb, leb→le}
 use borrow.Author.Tests.{eqb-false, not-true, le-leb, lt-leb, le-ltb, lt-ltb}
 use Rattle.checks.specs.Checks.{Check, _!_, first, Holds}
-use Rattle.checks.proofs.Tests.{passed, left, right}
+use Rattle.checks.proofs.Tests.{passed, left, right, case}
 
 -- ---- a list that holds answers 0
 holding : (b : Bool) (m n k : ℕ) → T b → m ≡ k → cond b m n ≡ k
@@ -84,6 +85,24 @@ found-left xs ys e h = e ∙ sym (first-left xs ys (λ q. h (e ∙ q)))
 pub found-right :
     {k m : ℕ} (xs ys : List Check) → T (absent 0 xs) → k ≡ first xs → k ≡ 0 → m ≡ first ys → m ≡ first (xs ++ ys)
 found-right xs ys n e z f = f ∙ sym (first-right xs ys (first→holds 0 xs n (sym e ∙ z) .0))
+
+-- ---- the answer is 0 or lies where the numbers of the list lie
+abbrev pub within : ℕ → ℕ → List Check → Bool
+within l m [] = true
+within l m (c ∷ cs) = (leb l (c .number) && leb (c .number) m) && within l m cs
+
+pub between : (l m : ℕ) (cs : List Check) → T (within l m cs) → (first cs ≡ 0) ⊎ ((l ≤ first cs) × (first cs ≤ m))
+between l m [] h = inl refl
+between l m (c ∷ cs) h =
+    let both = left (leb l (c .number) && leb (c .number) m) (within l m cs) h in
+    let low = left (leb l (c .number)) (leb (c .number) m) both in
+    let high = right (leb l (c .number)) (leb (c .number) m) both in
+    case (c .ok)
+    (λ e. rw e (between l m cs (right (leb l (c .number) && leb (c .number) m) (within l m cs) h)))
+    (λ e. rw e (inr (leb→le l (c .number) low, leb→le (c .number) m high)))
+
+pub at-most : (m : ℕ) (cs : List Check) → T (within 0 m cs) → first cs ≤ m
+at-most m cs h = ⊎-elim (λ z. omega arith) (λ b. b .1) (between 0 m cs h)
 
 -- ---- a list of one check, whose failure was tested: x is past y
 pub one-check : {b : Bool} (x y k : ℕ) → b ≡ ltb y x → cond b k 0 ≡ first ((leb x y ! k) ∷ [])
