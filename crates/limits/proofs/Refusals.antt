@@ -3,12 +3,13 @@
 use mathlib.Core.Path.{_≡_, refl, subst}
 use mathlib.Core.Bool.{Bool, true, false, _&&_}
 use mathlib.Core.List.{List, [], _∷_}
-use Prim.Native.Nat.{ℕ, zero, suc, _+_, _≤_, _<_}
+use Prim.Native.Nat.{ℕ, zero, suc, _≤_, _<_}
 use native.Mathlib.Omega.{arith}
 use lib.Dec.{T, leb, T-not}
 use lib.ListN.{length, getD}
 use Rattle.checks.specs.Conditions.{FirstOf}
-use Rattle.checks.specs.Checks.{first, numbered}
+use Rattle.checks.specs.Checks.{numbered}
+use Rattle.checks.proofs.Checks.{at-most}
 use Rattle.checks.proofs.ConditionLaws.{first-of, no-other}
 use Rattle.checks.proofs.Tests.{tests, left, right}
 use Rattle.limits.specs.declared.Table.{Table}
@@ -38,12 +39,6 @@ all : (b : Bool) (xs : List ℕ) → T b → ((i : ℕ) → i < length xs → 1 
 all b [] t h = t
 all b (x ∷ xs) t h = all (b && leb 1 x) xs (both b (leb 1 x) t (let l = h 0 (omega arith) in omega (arith, tests))) (λ i l. h (suc i) (omega arith))
 
--- ---- tests with the numbers from n on answer at most the last
-below : (n k : ℕ) (bs : List Bool) → n + length bs ≤ k + 1 → first (numbered n bs) ≤ k
-below n k [] h = omega arith
-below n k (true ∷ bs) h = below (suc n) k bs (omega arith)
-below n k (false ∷ bs) h = omega arith
-
 module _ (t : Table) where
   pub in-order : FirstOf (broken t) (brokenRule t)
   in-order =
@@ -56,13 +51,13 @@ module _ (t : Table) where
       )
 
   pub at-most-15 : brokenRule t ≤ 15
-  at-most-15 = below 1 15 (rules t) (omega arith)
+  at-most-15 = at-most 15 (numbered 1 (rules t)) tt
 
   pub admitted : brokenRule t ≡ 0 → Admitted t
-  admitted e = subst (FirstOf (broken t)) e in-order
+  admitted e = record { none-broken = subst (FirstOf (broken t)) e in-order }
 
   pub not-admitted : ¬ (brokenRule t ≡ 0) → ¬ Admitted t
-  not-admitted n a = n (no-other (broken t) (brokenRule t) 0 in-order a)
+  not-admitted n a = n (no-other (broken t) (brokenRule t) 0 in-order (a .none-broken))
 
 pub broken-rule :
     (κs : _) (a : _) (r : _) (at : _) → broken-rule-reads.Post κs a r at → FirstOf (broken (a .0)) r × (r ≤ 15)

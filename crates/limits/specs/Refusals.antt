@@ -27,5 +27,5 @@ broken t =
     ∷ []
 
 -- all fifteen hold
-abbrev pub Admitted : Table → Type 0
-Admitted t = FirstOf (broken t) 0
+pub record Admitted (t : Table) : Type 0 where
+  pub none-broken : FirstOf (broken t) 0
