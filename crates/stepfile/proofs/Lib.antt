@@ -10,4 +10,7 @@ pub mod ReadLaws
 pub mod WholeLaws
 pub mod RoundTrip
 pub mod RoundTripCalls
+pub mod FileRefusals
+pub mod WriteRefusals
+pub mod Refusals
 pub mod Determined

@@ -2,4 +2,5 @@ pub mod Bytes
 pub mod Records
 pub mod Files
 pub mod Writing
+pub mod Refusals
 pub mod RoundTrip

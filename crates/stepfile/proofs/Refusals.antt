@@ -1,0 +1,19 @@
+-- A file and a write are refused by the first number whose condition holds, in the words of specs/Refusals.antt, and a refused write
+-- changes no byte: of the contracts.
+-- Assumes nothing.
+use denote.Ref.{now}
+use Rattle.stepfile.specs.Refusals.{FileAnswers, WriteAnswers}
+use Rattle.stepfile.proofs.refused.Reads as refused-reads
+use Rattle.stepfile.proofs.write.write.Reads as write-reads
+use Rattle.stepfile.proofs.FileRefusals.{file-answers}
+use Rattle.stepfile.proofs.WriteRefusals.{write-answers}
+
+pub refused :
+    (κs : _) (a : _) (r : _) (at : _) → refused-reads.Post κs a r at → FileAnswers (now (a .0)) (r .number) (r .rule)
+refused κs a r at p = rw p (file-answers (now (a .0)))
+
+pub write :
+    (κs : _) (a : _) (r : _) (at : _) → write-reads.Post κs a r at
+    → WriteAnswers (a .0) (now (a .1 .0)) (now (a .1 .1 .0)) (now (a .1 .1 .1 .0)) (r .number) (r .rule) (r .index) (r .length)
+    (now (at .1 .1 .1 .0))
+write κs a r at p = rw (p .0, p .1) (write-answers (a .0) (now (a .1 .0)) (now (a .1 .1 .0)) (now (a .1 .1 .1 .0)))

@@ -1,0 +1,330 @@
+-- Laws on a write against the words of specs/Refusals.antt: the first number whose condition holds, and with 5 and 6 the first record
+-- that does not read.
+-- Assumes nothing.
+use mathlib.Core.Path.{_≡_, refl, sym, ap, subst, _∙_}
+use mathlib.Core.Bool.{cond}
+use mathlib.Core.Logic.{_⊎_, inl, inr, ⊎-elim}
+use mathlib.Core.List.{List, [], _∷_, _++_}
+use Prim.Native.Nat.{ℕ, zero, suc, _+_, _≤_, _<_}
+use native.Mathlib.Decide.{decLt}
+use native.Mathlib.Omega.{arith}
+use lib.Dec.{leb, eqb, eqb→eq}
+use lib.ListN.{length, getD, drop}
+use borrow.Author.Tests.{eqb-true, eqb-false, eq-eqb, ne-eqb, leb-true, leb-false}
+use Rattle.checks.specs.Checks.{_!_, first}
+use Rattle.checks.specs.Conditions.{Condition, _gives_, _else_, FirstOf}
+use Rattle.checks.proofs.Checks.{first→holds, first-append, at-most}
+use Rattle.checks.proofs.ConditionLaws.{first-of, no-other, one-of, of-left, of-right}
+use Rattle.checks.proofs.Tests.{tests, case, neqb→ne}
+use Rattle.limits.specs.Rules.{brokenRule}
+use Rattle.limits.specs.Refusals.{Admitted}
+use Rattle.limits.proofs.Refusals.{admitted, not-admitted}
+use Rattle.shift.specs.declared.Step.{Step}
+use Rattle.shift.specs.declared.Step.the-variants.{Finish}
+use Rattle.shift.specs.Answers.{plain, ticking, reading, refusal}
+use Rattle.shift.proofs.ReadingLaws.{past-codes, alike}
+use Rattle.stepfile.specs.declared.write.Wish.{Wish}
+use Rattle.stepfile.specs.declared.write.Wish.the-variants.{Given, NoTable}
+use Rattle.stepfile.specs.declared.write.Wrong.{Wrong}
+use Rattle.stepfile.specs.declared.write.Written.{Written}
+use Rattle.stepfile.specs.Writing.{wished, wrongOr, firstWrong, sizeOf, writable, refusedWith, writtenOf, bufferAfter, fileOf}
+use Rattle.stepfile.specs.Refusals.{recordRefusals, WrongAt, tableFor, bytesFor, writeRefusals, WriteAnswers}
+use Rattle.stepfile.proofs.WriteLaws.{at-lists, at-record, at-room, written}
+use Rattle.stepfile.proofs.FileRefusals.{ruled}
+
+-- ---- a record of a write
+plain-in-order : (x : Step) (c n : ℕ) → 1 ≤ c → c ≤ 11 → FirstOf (recordRefusals c n) (refusal (plain x 0 n))
+plain-in-order x c n l m =
+    case (eqb n 0)
+    (λ t.
+    let z = eqb-true n 0 t in
+    rw t (inr (λ q. q (l, omega arith), inr (λ q. q (inl (m, z)), refl))))
+    (λ t.
+    let z = eqb-false n 0 t in
+    rw t (inr (λ q. q (l, omega arith), inl (⊎-elim (λ q. z (q .1)) (λ q. omega arith), refl))))
+
+tick-in-order : (n : ℕ) → FirstOf (recordRefusals 12 n) (refusal (ticking 0 n))
+tick-in-order n =
+    let coded : ¬ ¬ ((1 ≤ 12) × (12 ≤ 12)) = λ q. q (omega arith) in
+    case (leb 1 n)
+    (λ t.
+    let low = leb-true 1 n t in
+    case (leb n 65535)
+    (λ u. rw (t, u) (inr (coded, inr (λ q. q (inr (refl, low, leb-true n 65535 u)), refl))))
+    (λ u.
+    let high = leb-false n 65535 u in
+    rw (t, u) (inr (coded, inl (⊎-elim (λ q. omega arith) (λ q. omega arith), refl)))))
+    (λ t.
+    let low = leb-false 1 n t in
+    rw t (inr (coded, inl (⊎-elim (λ q. omega arith) (λ q. omega arith), refl))))
+
+record-in-order : (c n : ℕ) → FirstOf (recordRefusals c n) (refusal (reading c 0 n))
+record-in-order c n =
+    elim (decLt 12 c) [
+      | yes h ↦ rw (past-codes 0 n c h) (inl (λ q. omega arith, refl))
+      | no h ↦
+          elim (decLt 0 c) [
+            | yes l ↦
+                elim (decLt c 12) [
+                  | yes m ↦ rw (← alike 0 n c l m) (plain-in-order Finish c n l (omega arith))
+                  | no m ↦ let e : c ≡ 12 = omega arith in rw e (tick-in-order n)
+                ]
+            | no l ↦ let e : c ≡ 0 = omega arith in rw e (inl (λ q. omega arith, refl))
+          ]
+    ]
+
+abbrev ReadsAt : List ℕ → List ℕ → ℕ → Type 0
+ReadsAt cs ns i = FirstOf (recordRefusals (getD cs i 0) (getD ns i 0)) 0
+
+-- of the records from the i-th on, with those before it behind them: all read, or the first that does not is where the writer says
+record Found (cs ns : List ℕ) (i : ℕ) (w : Wrong) : Type 0 where
+  all-read : w .number ≡ 0 → (j : ℕ) → j < length cs → ReadsAt cs ns j
+  there : ¬ (w .number ≡ 0) → (j : ℕ) × (w .index ≡ i + j) × WrongAt cs ns (w .number) j
+
+module _ (c n : ℕ) (cs ns : List ℕ) (i : ℕ) where
+  found-first : (k : ℕ) → FirstOf (recordRefusals c n) k → ¬ (k ≡ 0) → Found (c ∷ cs) (n ∷ ns) i (record { number = k; index = i })
+  found-first k f z =
+      record {
+        all-read = λ e. absurd (z e);
+        there = λ _. (0, omega arith, record { in-list = omega arith; wrong = f; before = λ j l. absurd (omega arith) });
+      }
+
+  module _ (w : Wrong) (reads : FirstOf (recordRefusals c n) 0) (rest : Found cs ns (suc i) w) where
+    found-later : Found (c ∷ cs) (n ∷ ns) i w
+    found-later =
+        record {
+          all-read = λ e. earlier (rest .all-read e);
+          there =
+              λ z.
+              let at = rest .there z in (
+                suc (at .0),
+                omega (arith, at .1),
+                record { in-list = omega (arith, at .2 .in-list); wrong = at .2 .wrong; before = earlier (at .2 .before) },
+              );
+        }
+      where
+        earlier : {m : ℕ} → ((j : ℕ) → j < m → ReadsAt cs ns j) → (j : ℕ) → j < suc m → ReadsAt (c ∷ cs) (n ∷ ns) j
+        earlier h zero l = reads
+        earlier h (suc j) l = h j (omega arith)
+
+found : (i : ℕ) (cs ns : List ℕ) → length cs ≡ length ns → Found cs ns i (firstWrong i cs ns)
+found i [] ns e = record { all-read = λ _ j l. absurd (omega arith); there = λ z. absurd (z refl) }
+found i (c ∷ cs) [] e = absurd (omega arith)
+found i (c ∷ cs) (n ∷ ns) e =
+    go (refusal (reading c 0 n)) (record-in-order c n) (found (suc i) cs ns (omega arith))
+  where
+    go :
+        (k : ℕ) → FirstOf (recordRefusals c n) k → Found cs ns (suc i) (firstWrong (suc i) cs ns)
+        → Found (c ∷ cs) (n ∷ ns) i (wrongOr k i (firstWrong (suc i) cs ns))
+    go zero f rest = found-later c n cs ns i (firstWrong (suc i) cs ns) f rest
+    go (suc k) f rest = found-first c n cs ns i (suc k) f (λ z. omega arith)
+
+-- the first record that does not read is one, and its number is one
+module _ (cs ns : List ℕ) where
+  same : (i m k : ℕ) → FirstOf (recordRefusals (getD cs i 0) (getD ns i 0)) m → FirstOf (recordRefusals (getD cs i 0) (getD ns i 0)) k
+      → m ≡ k
+  same i = no-other (recordRefusals (getD cs i 0) (getD ns i 0))
+
+  one-number : (m k i j : ℕ) → WrongAt cs ns m i → WrongAt cs ns k j → ¬ (m ≡ 0) → ¬ (k ≡ 0) → m ≡ k
+  one-number m k i j a b z y =
+      elim (decLt i j) [
+        | yes l ↦ absurd (z (same i m 0 (a .wrong) (b .before i l)))
+        | no l ↦
+            elim (decLt j i) [
+              | yes h ↦ absurd (y (same j k 0 (b .wrong) (a .before j h)))
+              | no h ↦
+                  let e : i ≡ j = omega arith in
+                  same j m k (subst (λ x. FirstOf (recordRefusals (getD cs x 0) (getD ns x 0)) m) e (a .wrong)) (b .wrong)
+            ]
+      ]
+
+  five-or-six : (k i : ℕ) → WrongAt cs ns k i → ¬ (k ≡ 0) → (k ≡ 5) ⊎ (k ≡ 6)
+  five-or-six k i a z =
+      ⊎-elim (λ e. absurd (z e)) (⊎-elim (λ e. inl e) (⊎-elim (λ e. inr e) (λ e. absurd e)))
+      (one-of (recordRefusals (getD cs i 0) (getD ns i 0)) k (a .wrong))
+
+-- ---- a write
+same-table : (w : Wish) → wished w ≡ tableFor w
+same-table (Given t) = refl
+same-table NoTable = refl
+
+same-size : (w : Wish) (cs : List ℕ) → sizeOf w cs ≡ bytesFor w (length cs)
+same-size (Given t) cs = refl
+same-size NoTable cs = refl
+
+module _ (w : Wish) (cs ns out : List ℕ) where
+  abbrev listRefusals : List Condition
+  listRefusals =
+      ((length cs ≡ length ns) else 3)
+      ∷ (16372 < length cs gives 2)
+      ∷ (Admitted (tableFor w) else 4)
+      ∷ []
+
+  abbrev orderRefusals : List Condition
+  orderRefusals = (((i : ℕ) × WrongAt cs ns 5 i) gives 5) ∷ (((i : ℕ) × WrongAt cs ns 6 i) gives 6) ∷ []
+
+  abbrev roomRefusals : List Condition
+  roomRefusals = (length out < bytesFor w (length cs) gives 15) ∷ []
+
+  lists-in-order : FirstOf listRefusals (first (writable w cs ns))
+  lists-in-order =
+      let rule = ap brokenRule (same-table w) in
+      first-of (writable w cs ns) listRefusals (
+        omega (arith, tests),
+        (
+          omega (arith, tests),
+          (
+            (
+              λ t. not-admitted (tableFor w) (λ z. neqb→ne (brokenRule (wished w)) 0 t (rule ∙ z)),
+              (λ t n. n (admitted (tableFor w) (sym rule ∙ eqb→eq (brokenRule (wished w)) 0 t)), refl),
+            ),
+            tt,
+          ),
+        ),
+      )
+
+  abbrev wrong : Wrong
+  wrong = firstWrong 0 cs ns
+
+  records-in-order : length cs ≡ length ns → FirstOf orderRefusals (wrong .number)
+  records-in-order e =
+      let f = found 0 cs ns e in
+      case (eqb (wrong .number) 0)
+      (λ t.
+      let z = eqb-true (wrong .number) 0 t in
+      let none : (k : ℕ) → ¬ (k ≡ 0) → ¬ ((i : ℕ) × WrongAt cs ns k i) =
+      λ k n a. n (same cs ns (a .0) k 0 (a .1 .wrong) (f .all-read z (a .0) (a .1 .in-list)))
+      in
+      inr (none 5 (λ q. omega arith), inr (none 6 (λ q. omega arith), z)))
+      (λ t.
+      let n = eqb-false (wrong .number) 0 t in
+      let at = f .there n in
+      ⊎-elim
+      (λ five. inl ((at .0, subst (λ k. WrongAt cs ns k (at .0)) five (at .2)), five))
+      (λ six.
+      inr (
+        λ a.
+            let other = one-number cs ns 5 (wrong .number) (a .0) (at .0) (a .1) (at .2) (λ q. omega arith) n in
+            omega arith,
+        inl ((at .0, subst (λ k. WrongAt cs ns k (at .0)) six (at .2)), six),
+      ))
+      (five-or-six cs ns (wrong .number) (at .0) (at .2) n))
+
+  abbrev Answers : Written → List ℕ → Type 0
+  Answers r b = WriteAnswers w cs ns out (r .number) (r .rule) (r .index) (r .length) b
+
+  carried :
+      (r : Written) (b : List ℕ) → (r ≡ writtenOf w cs ns (length out)) × (b ≡ bufferAfter w cs ns out) → Answers r b
+      → Answers (writtenOf w cs ns (length out)) (bufferAfter w cs ns out)
+  carried r b e a = subst (λ q. Answers q (bufferAfter w cs ns out)) (e .0) (subst (λ c. Answers r c) (e .1) a)
+
+  -- stopped by the lists or the table
+  abbrev number : ℕ
+  number = first (writable w cs ns)
+
+  abbrev itsRule : ℕ
+  itsRule = cond (eqb number 4) (brokenRule (wished w)) 0
+
+  list-rule : number ≡ 4 → (itsRule ≡ brokenRule (tableFor w)) × ¬ (itsRule ≡ 0)
+  list-rule e =
+      let last = first-append 4 ((eqb (length cs) (length ns) ! 3) ∷ (leb (length cs) 16372 ! 2) ∷ []) ((eqb (brokenRule (wished w)) 0 ! 4) ∷ []) tt e .1 in
+      let n : ¬ (brokenRule (wished w) ≡ 0) = λ z. let q = rw (eq-eqb (brokenRule (wished w)) 0 z) at last in omega arith in
+      let own : itsRule ≡ brokenRule (wished w) = rw (eq-eqb number 4 e) in
+      (own ∙ ap brokenRule (same-table w), λ z. n (sym own ∙ z))
+
+  by-lists : ¬ (number ≡ 0) → Answers (refusedWith number itsRule 0) out
+  by-lists n =
+      let most = at-most 4 (writable w cs ns) tt in
+      record {
+        first = of-left listRefusals (orderRefusals ++ roomRefusals) number n lists-in-order;
+        numbers =
+            ⊎-elim (λ e. inl e)
+            (⊎-elim (λ e. inr (inr (inl e)))
+            (⊎-elim (λ e. inr (inl e)) (⊎-elim (λ e. inr (inr (inr (inl e)))) (λ e. absurd e))))
+            (one-of listRefusals number lists-in-order);
+        rule-for = ruled (tableFor w) number itsRule list-rule (λ q. rw (ne-eqb number 4 q));
+        index-with-5-and-6 = ⊎-elim (λ e. absurd (omega arith)) (λ e. absurd (omega arith));
+        index-else-0 = λ _. refl;
+        unchanged = λ _. (refl, refl);
+      }
+
+  -- not stopped by them
+  module _ (z : number ≡ 0) where
+    abbrev passed : FirstOf listRefusals 0
+    passed = subst (FirstOf listRefusals) z lists-in-order
+
+    as-long : length cs ≡ length ns
+    as-long = let h = first→holds 0 (writable w cs ns) tt z .0 in omega (arith, tests)
+
+    by-record : ¬ (wrong .number ≡ 0) → Answers (refusedWith (wrong .number) 0 (wrong .index)) out
+    by-record n =
+        let at = found 0 cs ns as-long .there n in
+        let which = five-or-six cs ns (wrong .number) (at .0) (at .2) n in
+        let there : at .0 ≡ wrong .index = omega (arith, at .1) in
+        record {
+          first =
+              of-right listRefusals (orderRefusals ++ roomRefusals) (wrong .number) tt passed
+              (of-left orderRefusals roomRefusals (wrong .number) n (records-in-order as-long));
+          numbers =
+              ⊎-elim (λ e. inr (inr (inr (inr (inl e))))) (λ e. inr (inr (inr (inr (inr (inl e)))))) which;
+          rule-for =
+              ruled (tableFor w) (wrong .number) 0 (λ e. ⊎-elim (λ q. absurd (omega arith)) (λ q. absurd (omega arith)) which) (λ _. refl);
+          index-with-5-and-6 = λ _. subst (WrongAt cs ns (wrong .number)) there (at .2);
+          index-else-0 = λ q. absurd (q which);
+          unchanged = λ _. (refl, refl);
+        }
+
+    module _ (y : wrong .number ≡ 0) where
+      by-room : (n : ℕ) → FirstOf roomRefusals n → FirstOf (writeRefusals w cs ns out) n
+      by-room n f =
+          of-right listRefusals (orderRefusals ++ roomRefusals) n tt passed
+          (of-right orderRefusals roomRefusals n tt (subst (FirstOf orderRefusals) y (records-in-order as-long)) f)
+
+      no-room : length out < bytesFor w (length cs) → Answers (refusedWith 15 0 0) out
+      no-room l =
+          record {
+            first = by-room 15 (inl (l, refl));
+            numbers = inr (inr (inr (inr (inr (inr (inl refl))))));
+            rule-for = ruled (tableFor w) 15 0 (λ e. absurd (omega arith)) (λ _. refl);
+            index-with-5-and-6 = ⊎-elim (λ e. absurd (omega arith)) (λ e. absurd (omega arith));
+            index-else-0 = λ _. refl;
+            unchanged = λ _. (refl, refl);
+          }
+
+      accepted :
+          (size : ℕ) (b : List ℕ) → bytesFor w (length cs) ≤ length out
+          → Answers (record { number = 0; rule = 0; index = 0; length = size }) b
+      accepted size b l =
+          record {
+            first = by-room 0 (inr (λ q. omega arith, refl));
+            numbers = inl refl;
+            rule-for = ruled (tableFor w) 0 0 (λ e. absurd (omega arith)) (λ _. refl);
+            index-with-5-and-6 = ⊎-elim (λ e. absurd (omega arith)) (λ e. absurd (omega arith));
+            index-else-0 = λ _. refl;
+            unchanged = λ n. absurd (n refl);
+          }
+
+  pub write-answers : Answers (writtenOf w cs ns (length out)) (bufferAfter w cs ns out)
+  write-answers =
+      let size = same-size w cs in
+      let done : Written = record { number = 0; rule = 0; index = 0; length = sizeOf w cs } in
+      let file = fileOf w cs ns ++ drop (sizeOf w cs) out in
+      case (eqb number 0)
+      (λ t.
+      let z = eqb-true number 0 t in
+      case (eqb (wrong .number) 0)
+      (λ u.
+      let y = eqb-true (wrong .number) 0 u in
+      case (leb (sizeOf w cs) (length out))
+      (λ l.
+      let room = leb-true (sizeOf w cs) (length out) l in
+      carried done file (written w cs ns out z y room) (accepted z y (sizeOf w cs) file (omega arith)))
+      (λ l.
+      let past = leb-false (sizeOf w cs) (length out) l in
+      carried (refusedWith 15 0 0) out (at-room w cs ns out z y past) (no-room z y (omega arith))))
+      (λ u.
+      let n = eqb-false (wrong .number) 0 u in
+      carried (refusedWith (wrong .number) 0 (wrong .index)) out (at-record w cs ns out z n) (by-record z n)))
+      (λ t.
+      let n = eqb-false number 0 t in
+      carried (refusedWith number itsRule 0) out (at-lists w cs ns out number refl n) (by-lists n))
