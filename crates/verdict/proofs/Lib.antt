@@ -2,5 +2,6 @@ pub mod Judging
 pub mod Verdicts
 pub mod LongInputs
 pub mod WrittenFiles
+pub mod Refusals
 pub mod Determined
 pub mod KnownFiles
