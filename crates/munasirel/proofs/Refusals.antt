@@ -1,0 +1,64 @@
+-- What a host calls is refused by the first number whose condition holds, in the words of each crate's specs/Refusals.antt, and a refused
+-- call keeps the count and every byte that it was lent.
+-- Assumes nothing.
+use mathlib.Core.Path.{_≡_}
+use Prim.Native.Nat.{_≤_}
+use denote.Ref.{now}
+use Rattle.checks.specs.Conditions.{FirstOf}
+use Rattle.limits.specs.Refusals.{broken}
+use Rattle.limits.proofs.Refusals.{in-order, at-most-15}
+use Rattle.line.specs.Refusals.{LineAnswers}
+use Rattle.line.proofs.Refusals.{line-answers}
+use Rattle.stepfile.specs.Refusals.{WriteAnswers}
+use Rattle.stepfile.proofs.WriteRefusals.{write-answers}
+use Rattle.transfer.specs.Refusals.{JoinAnswers}
+use Rattle.transfer.proofs.Refusals.{join-answers}
+use Rattle.verdict.specs.declared.Verdict.{Verdict}
+use Rattle.verdict.specs.Verdicts.{verdictOf}
+use Rattle.verdict.specs.Said.{lineFor}
+use Rattle.verdict.specs.Refusals.{JudgeAnswers}
+use Rattle.verdict.proofs.Refusals.{judge-answers}
+use Rattle.munasirel.specs.Calls.{wishOf}
+use Rattle.munasirel.proofs.munasirel_judge.Reads as judge-reads
+use Rattle.munasirel.proofs.munasirel_admit.Reads as admit-reads
+use Rattle.munasirel.proofs.munasirel_line.Reads as line-reads
+use Rattle.munasirel.proofs.munasirel_join.Reads as join-reads
+use Rattle.munasirel.proofs.munasirel_write.Reads as write-reads
+
+-- the number of a verdict
+pub munasirel-judge :
+    (κs : _) (a : _) (r : _) (at : _) → judge-reads.Post κs a r at
+    → (v : Verdict) × (r ≡ v .number) × JudgeAnswers (now (a .0)) v
+munasirel-judge κs a r at p = (verdictOf (now (a .0)), p, judge-answers (now (a .0)))
+
+pub munasirel-admit :
+    (κs : _) (a : _) (r : _) (at : _) → admit-reads.Post κs a r at → FirstOf (broken (a .0)) r × (r ≤ 15)
+munasirel-admit κs a r at p = rw p (in-order (a .0), at-most-15 (a .0))
+
+-- the number, the length and the buffer
+pub munasirel-line :
+    (κs : _) (a : _) (r : _) (at : _) → line-reads.Post κs a r at
+    → LineAnswers (lineFor (now (a .0))) (now (a .1 .0)) r (now (at .1 .1 .0)) (now (at .1 .0))
+munasirel-line κs a r at p = rw (p .0, p .1, p .2) (line-answers (lineFor (now (a .0))) (now (a .1 .0)))
+
+-- the number, the count and the buffer
+pub munasirel-join :
+    (κs : _) (a : _) (r : _) (at : _) → join-reads.Post κs a r at
+    → JoinAnswers (now (a .0)) (now (a .1 .0)) (a .1 .1 .0) (now (a .1 .1 .1 .0)) r (now (at .1 .0)) (now (at .0))
+munasirel-join κs a r at p =
+    rw (p .0, p .1, p .2) (join-answers (now (a .0)) (now (a .1 .0)) (a .1 .1 .0) (now (a .1 .1 .1 .0)))
+
+-- the number, the rule, the index, the length and the buffer
+pub munasirel-write :
+    (κs : _) (a : _) (r : _) (at : _) → write-reads.Post κs a r at
+    → let given = a .1 .1 in
+    let lent = at .1 .1 .1 .1 in
+    WriteAnswers (wishOf (a .1 .0) (a .0)) (now (given .0)) (now (given .1 .0)) (now (given .1 .1 .0)) r
+    (now (lent .1 .1 .1 .0))
+    (now (lent .1 .1 .0))
+    (now (lent .1 .0))
+    (now (lent .0))
+munasirel-write κs a r at p =
+    let given = a .1 .1 in
+    rw (p .0, p .1, p .2, p .3, p .4)
+    (write-answers (wishOf (a .1 .0) (a .0)) (now (given .0)) (now (given .1 .0)) (now (given .1 .1 .0)))
