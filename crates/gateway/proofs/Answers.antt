@@ -9,7 +9,7 @@ use Rattle.checks.specs.Conditions.{FirstOf}
 use Rattle.limits.specs.declared.Table.{Table}
 use Rattle.shift.specs.declared.State.{State}
 use Rattle.shift.specs.declared.Answer.{Answer}
-use Rattle.promises.specs.Admission.{rulesStated, broken}
+use Rattle.limits.specs.Refusals.{broken}
 use Rattle.promises.specs.Refusals.{Answered}
 use Rattle.promises.proofs.AnswerLaws.{answered, with-its-rule}
 use Rattle.gateway.specs.Advancing.{advancedOn}
@@ -23,7 +23,7 @@ module _ (t : Table) (s : State) (code middle low high : ℕ) where
   unfolding advancedOn
   a-record = answered t s code middle (low + 256 * high)
 
-  its-rule : FirstOf (broken 1 (rulesStated t)) (advancedOn t s code middle low high .rule)
+  its-rule : FirstOf (broken t) (advancedOn t s code middle low high .rule)
   unfolding advancedOn
   its-rule = with-its-rule t s code middle (low + 256 * high)
 
@@ -52,6 +52,6 @@ module _
   a-record-is-answered-in-the-document's-words =
       subst (λ (q : Answer). Answered table state code middle amount (q .number) (q .state)) (sym call) (a-record table state code middle _ _)
 
-  pub a-record-names-the-first-broken-rule : FirstOf (broken 1 (rulesStated table)) (a .rule)
+  pub a-record-names-the-first-broken-rule : FirstOf (broken table) (a .rule)
   a-record-names-the-first-broken-rule =
-      subst (λ (q : Answer). FirstOf (broken 1 (rulesStated table)) (q .rule)) (sym call) (its-rule table state code middle _ _)
+      subst (λ (q : Answer). FirstOf (broken table) (q .rule)) (sym call) (its-rule table state code middle _ _)

@@ -1,64 +1,82 @@
--- A table's broken rule is the first of the fifteen that it breaks, in the words of specs/Refusals.antt, and 0 where it breaks none.
+-- A table is admitted where the fifteen rules hold in the words of specs/Refusals.antt, and the broken rule is the first of them that
+-- does not.
 -- Assumes nothing.
-use mathlib.Core.Path.{_≡_, refl, subst}
-use mathlib.Core.Bool.{Bool, true, false, _&&_}
-use mathlib.Core.List.{List, [], _∷_}
-use Prim.Native.Nat.{ℕ, zero, suc, _≤_, _<_}
-use native.Mathlib.Omega.{arith}
-use lib.Dec.{T, leb, T-not}
-use lib.ListN.{length, getD}
+use mathlib.Core.Path.{_≡_, refl}
+use mathlib.Core.Logic.{_↔_}
+use mathlib.Core.Bool.{Bool}
+use mathlib.Core.List.{List, [], _∷_, map}
+use Prim.Native.Nat.{ℕ, suc, _≤_}
+use lib.Dec.{T, leb, leb→le, le→leb, T-not}
+use Rattle.checks.specs.Checks.{Holds, numbered}
 use Rattle.checks.specs.Conditions.{FirstOf}
-use Rattle.checks.specs.Checks.{numbered}
-use Rattle.checks.proofs.Checks.{at-most}
-use Rattle.checks.proofs.ConditionLaws.{first-of, no-other}
-use Rattle.checks.proofs.Tests.{tests, left, right}
+use Rattle.checks.proofs.ConditionLaws.{Tested, first-of}
+use Rattle.checks.proofs.Checks.{holds→first, first→holds, at-most}
+use Rattle.checks.proofs.Tests.{left, right, both}
 use Rattle.limits.specs.declared.Table.{Table}
 use Rattle.limits.specs.Limits.{entries}
 use Rattle.limits.specs.Rules.{atLeast1, rules, brokenRule}
-use Rattle.limits.specs.Refusals.{broken, Admitted}
+use Rattle.limits.specs.Refusals.{All, rulesStated, Admitted, brokenFrom, broken}
 use Rattle.limits.proofs.Table.broken_rule.Reads as broken-rule-reads
 
-both : (a b : Bool) → T a → T b → T (a && b)
-both true b s t = t
-both false b s t = absurd s
+-- a test of a statement, and tests of a list of them
+abbrev pub Tests : Bool → Type 0 → Type 0
+Tests b P = T b ↔ P
 
--- ---- rule 1
-first-and :
-    (x : ℕ) (xs : List ℕ) → T (leb 1 x) → ((i : ℕ) → i < length xs → 1 ≤ getD xs i 0) → (i : ℕ) → i < suc (length xs)
-    → 1 ≤ getD (x ∷ xs) i 0
-first-and x xs t h zero l = omega (arith, tests)
-first-and x xs t h (suc i) l = h i (omega arith)
+abbrev Each : List Bool → List (Type 0) → Type 0
+Each [] [] = Unit {0}
+Each [] (P ∷ Ps) = ⊥
+Each (b ∷ bs) [] = ⊥
+Each (b ∷ bs) (P ∷ Ps) = Tests b P × Each bs Ps
 
-each : (b : Bool) (xs : List ℕ) → T (atLeast1 b xs) → T b × ((i : ℕ) → i < length xs → 1 ≤ getD xs i 0)
-each b [] t = (t, λ i l. absurd (omega arith))
-each b (x ∷ xs) t =
-    let rest = each (b && leb 1 x) xs t in
-    (left b (leb 1 x) (rest .0), first-and x xs (right b (leb 1 x) (rest .0)) (rest .1))
+tested : (n : ℕ) (bs : List Bool) (Ps : List (Type 0)) → Each bs Ps → Tested (numbered n bs) (brokenFrom n Ps)
+tested n [] [] h = tt
+tested n [] (P ∷ Ps) h = h
+tested n (b ∷ bs) [] h = h
+tested n (b ∷ bs) (P ∷ Ps) h =
+    ((λ f p. T-not b f (h .0 .1 p), (λ o f. f (h .0 .0 o), refl)), tested (suc n) bs Ps (h .1))
 
-all : (b : Bool) (xs : List ℕ) → T b → ((i : ℕ) → i < length xs → 1 ≤ getD xs i 0) → T (atLeast1 b xs)
-all b [] t h = t
-all b (x ∷ xs) t h = all (b && leb 1 x) xs (both b (leb 1 x) t (let l = h 0 (omega arith) in omega (arith, tests))) (λ i l. h (suc i) (omega arith))
+every : (n : ℕ) (bs : List Bool) (Ps : List (Type 0)) → Each bs Ps → Holds (numbered n bs) ↔ All Ps
+every n [] [] h = (λ _. tt, λ _. tt)
+every n [] (P ∷ Ps) h = absurd h
+every n (b ∷ bs) [] h = absurd h
+every n (b ∷ bs) (P ∷ Ps) h =
+    let rest = every (suc n) bs Ps (h .1) in
+    (λ q. (h .0 .0 (q .0), rest .0 (q .1)), λ q. (h .0 .1 (q .0), rest .1 (q .1)))
+
+-- rule 1, entry by entry
+at-least : (xs : List ℕ) → Tests (atLeast1 xs) (All (map (λ x. 1 ≤ x) xs))
+at-least [] = (λ _. tt, λ _. tt)
+at-least (x ∷ xs) =
+    let rest = at-least xs in (
+      λ h. (leb→le 1 x (left (leb 1 x) (atLeast1 xs) h), rest .0 (right (leb 1 x) (atLeast1 xs) h)),
+      λ h. both (leb 1 x) (atLeast1 xs) (le→leb 1 x (h .0)) (rest .1 (h .1)),
+    )
+
+most : {m n : ℕ} → Tests (leb m n) (m ≤ n)
+most {m} {n} = (leb→le m n, le→leb m n)
 
 module _ (t : Table) where
+  each : Each (rules t) (rulesStated t)
+  each = (at-least (entries t), (most, (most, (most, (most, (most, (most, (most, (most, (most, (most, (most, (most, (most, (most, tt)))))))))))))))
+
   pub in-order : FirstOf (broken t) (brokenRule t)
-  in-order =
-      first-of (numbered 1 (rules t)) (broken t) (
-        (
-          λ f h. T-not (atLeast1 true (entries t)) f (all true (entries t) tt h),
-          (λ s n. n (each true (entries t) s .1), refl),
-        ),
-        (omega (arith, tests), (omega (arith, tests), (omega (arith, tests), (omega (arith, tests), (omega (arith, tests), (omega (arith, tests), (omega (arith, tests), omega (arith, tests)))))))),
-      )
+  in-order = first-of (numbered 1 (rules t)) (broken t) (tested 1 (rules t) (rulesStated t) each)
 
   pub at-most-15 : brokenRule t ≤ 15
   at-most-15 = at-most 15 (numbered 1 (rules t)) tt
 
+  pub admitted-in-the-document's-words : (brokenRule t ≡ 0) ↔ Admitted t
+  admitted-in-the-document's-words =
+      let h = every 1 (rules t) (rulesStated t) each in
+      (λ e. h .0 (first→holds 0 (numbered 1 (rules t)) tt e .0), λ a. holds→first (numbered 1 (rules t)) (h .1 a))
+
   pub admitted : brokenRule t ≡ 0 → Admitted t
-  admitted e = record { none-broken = subst (FirstOf (broken t)) e in-order }
+  admitted = admitted-in-the-document's-words .0
 
   pub not-admitted : ¬ (brokenRule t ≡ 0) → ¬ Admitted t
-  not-admitted n a = n (no-other (broken t) (brokenRule t) 0 in-order (a .none-broken))
+  not-admitted n a = n (admitted-in-the-document's-words .1 a)
 
+-- whatever the contract of `Table::broken_rule` allows
 pub broken-rule :
     (κs : _) (a : _) (r : _) (at : _) → broken-rule-reads.Post κs a r at → FirstOf (broken (a .0)) r × (r ≤ 15)
 broken-rule κs a r at p = rw p (in-order (a .0), at-most-15 (a .0))

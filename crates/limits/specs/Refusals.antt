@@ -1,31 +1,69 @@
--- Document 01, "The limit table", a second time: the fifteen rules as statements, each beside its number. It shares no definition with
--- Rules.antt, and writes the sums of the routes out.
+-- Document 01, "The limit table", a second time: the fifteen rules as statements, when a table is admitted, and which rule it breaks.
+-- It shares no definition with Limits.antt and Rules.antt.
 -- Assumes nothing.
 use mathlib.Core.List.{List, [], _∷_}
-use Prim.Native.Nat.{ℕ, _+_, _*_, _≤_, _<_}
-use Rattle.checks.specs.Conditions.{Condition, _else_, FirstOf}
+use Prim.Native.Nat.{ℕ, suc, _+_, _*_, _≤_, _<_}
+use Rattle.checks.specs.Conditions.{Condition, _else_}
 use Rattle.limits.specs.declared.Table.{Table}
-use Rattle.limits.specs.Limits.{entry}
 
-abbrev pub broken : Table → List Condition
-broken t =
-    (((i : ℕ) → i < 18 → 1 ≤ entry t i) else 1)
-    ∷ (2 * t .«channel_dl» + t .«engine_sync_dl» ≤ t .«sync_ex» else 2)
-    ∷ (2 * t .«channel_dl» + t .«engine_zero_dl» ≤ t .«zero_ex» else 3)
-    ∷ (2 * t .«channel_dl» + t .«clutch_open_dl» < t .«open_clutch_dl» else 4)
-    ∷ (2 * t .«channel_dl» + t .«clutch_close_dl» < t .«close_clutch_dl» else 5)
-    ∷ (2 * t .«channel_dl» + t .«gear_set_dl» < t .«set_gear_dl» else 6)
-    ∷ (2 * t .«channel_dl» + t .«gear_release_dl» < t .«release_dl» else 7)
-    ∷ (t .«sync_ex» < t .«sync_de» else 8)
-    ∷ (t .«zero_ex» < t .«zero_de» else 9)
-    ∷ (t .«sync_de» ≤ t .«sync_dl» else 10)
-    ∷ (t .«zero_de» ≤ t .«zero_dl» else 11)
-    ∷ (t .«sync_dl» + t .«open_clutch_dl» + t .«set_gear_dl» + t .«close_clutch_dl» ≤ t .«change_dl» else 12)
-    ∷ (t .«zero_dl» + t .«open_clutch_dl» + t .«release_dl» + t .«close_clutch_dl» ≤ t .«change_dl» else 13)
-    ∷ (t .«zero_ex» + t .«release_dl» + t .«sync_dl» + t .«open_clutch_dl» + t .«set_gear_dl» + t .«close_clutch_dl» ≤ t .«change_dl» else 14)
-    ∷ (t .«zero_dl» + t .«open_clutch_dl» + t .«release_dl» + t .«set_gear_dl» + t .«close_clutch_dl» ≤ t .«change_dl» else 15)
+-- all of a list of statements
+abbrev pub All : List (Type 0) → Type 0
+All [] = Unit {0}
+All (P ∷ Ps) = P × All Ps
+
+-- rule 1: every entry is at least 1
+abbrev pub positive : Table → List (Type 0)
+positive t =
+    (1 ≤ t .«channel_dl»)
+    ∷ (1 ≤ t .«engine_sync_dl»)
+    ∷ (1 ≤ t .«engine_zero_dl»)
+    ∷ (1 ≤ t .«clutch_open_dl»)
+    ∷ (1 ≤ t .«clutch_close_dl»)
+    ∷ (1 ≤ t .«gear_set_dl»)
+    ∷ (1 ≤ t .«gear_release_dl»)
+    ∷ (1 ≤ t .«sync_ex»)
+    ∷ (1 ≤ t .«zero_ex»)
+    ∷ (1 ≤ t .«sync_dl»)
+    ∷ (1 ≤ t .«zero_dl»)
+    ∷ (1 ≤ t .«sync_de»)
+    ∷ (1 ≤ t .«zero_de»)
+    ∷ (1 ≤ t .«open_clutch_dl»)
+    ∷ (1 ≤ t .«set_gear_dl»)
+    ∷ (1 ≤ t .«release_dl»)
+    ∷ (1 ≤ t .«close_clutch_dl»)
+    ∷ (1 ≤ t .«change_dl»)
     ∷ []
 
--- all fifteen hold
-pub record Admitted (t : Table) : Type 0 where
-  pub none-broken : FirstOf (broken t) 0
+-- rules 1 to 15
+abbrev pub rulesStated : Table → List (Type 0)
+rulesStated t =
+    let ch = t .«channel_dl» in
+    let change = t .«change_dl» in
+    let f = t .«sync_dl» + t .«open_clutch_dl» + t .«set_gear_dl» + t .«close_clutch_dl» in
+    All (positive t)
+    ∷ (2 * ch + t .«engine_sync_dl» ≤ t .«sync_ex»)
+    ∷ (2 * ch + t .«engine_zero_dl» ≤ t .«zero_ex»)
+    ∷ (2 * ch + t .«clutch_open_dl» < t .«open_clutch_dl»)
+    ∷ (2 * ch + t .«clutch_close_dl» < t .«close_clutch_dl»)
+    ∷ (2 * ch + t .«gear_set_dl» < t .«set_gear_dl»)
+    ∷ (2 * ch + t .«gear_release_dl» < t .«release_dl»)
+    ∷ (t .«sync_ex» < t .«sync_de»)
+    ∷ (t .«zero_ex» < t .«zero_de»)
+    ∷ (t .«sync_de» ≤ t .«sync_dl»)
+    ∷ (t .«zero_de» ≤ t .«zero_dl»)
+    ∷ (f ≤ change)
+    ∷ (t .«zero_dl» + t .«open_clutch_dl» + t .«release_dl» + t .«close_clutch_dl» ≤ change)
+    ∷ (t .«zero_ex» + t .«release_dl» + f ≤ change)
+    ∷ (t .«zero_dl» + t .«open_clutch_dl» + t .«release_dl» + t .«set_gear_dl» + t .«close_clutch_dl» ≤ change)
+    ∷ []
+
+abbrev pub Admitted : Table → Type 0
+Admitted t = All (rulesStated t)
+
+-- the rules that a table may break, by their numbers
+abbrev pub brokenFrom : ℕ → List (Type 0) → List Condition
+brokenFrom n [] = []
+brokenFrom n (P ∷ Ps) = _else_ P n ∷ brokenFrom (suc n) Ps
+
+abbrev pub broken : Table → List Condition
+broken t = brokenFrom 1 (rulesStated t)

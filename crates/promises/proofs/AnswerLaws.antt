@@ -22,10 +22,10 @@ use Rattle.shift.specs.declared.Reading.{Reading}
 use Rattle.shift.specs.declared.Reading.the-variants.{Means, WrongCode, WrongAmount}
 use Rattle.shift.specs.declared.Answer.{Answer}
 use Rattle.shift.specs.Answers.{reading, guard, led, answer, judged, admitting}
-use Rattle.promises.specs.Admission.{rulesStated, broken}
+use Rattle.limits.specs.Refusals.{broken}
 use Rattle.promises.specs.Effects.{Effect, codeOf, amountOf}
 use Rattle.promises.specs.Refusals.{Reads, refusals, Answered}
-use Rattle.promises.proofs.AdmissionLaws.{admitted, first-broken}
+use Rattle.limits.proofs.Refusals.{in-order, admitted-in-the-document's-words}
 use Rattle.promises.proofs.Permitted.{permitted}
 use Rattle.promises.proofs.EffectLaws.{effects}
 use Rattle.promises.proofs.RefusalLaws.{no-request, a-code, from-5, of-reading, reads}
@@ -104,7 +104,7 @@ module _ (t : Table) (s : State) (code middle amount : ℕ) where
   answered =
       let r = reading code middle amount in
       let read = reads middle amount code in record {
-        first = numbered (led s r) s (brokenRule t) (guard t s r) (from-5 t s code middle amount) (admitted t) (of-reading t s code middle amount r read);
+        first = numbered (led s r) s (brokenRule t) (guard t s r) (from-5 t s code middle amount) (admitted-in-the-document's-words t) (of-reading t s code middle amount r read);
         refused = given-back (led s r) s (brokenRule t) (guard t s r);
         accepted = λ z.
             let w = gone-on (led s r) s (brokenRule t) (guard t s r) z in
@@ -113,10 +113,10 @@ module _ (t : Table) (s : State) (code middle amount : ℕ) where
       }
 
   -- the rule is the one that the table breaks
-  pub with-its-rule : FirstOf (broken 1 (rulesStated t)) (given .rule)
+  pub with-its-rule : FirstOf (broken t) (given .rule)
   with-its-rule =
       let r = reading code middle amount in
-      subst (FirstOf (broken 1 (rulesStated t))) (sym (ruled (led s r) s (brokenRule t) (guard t s r))) (first-broken t)
+      subst (FirstOf (broken t)) (sym (ruled (led s r) s (brokenRule t) (guard t s r))) (in-order t)
 
   made :
       (r : Reading) → Reads code middle amount r → guard t s r ≡ 0

@@ -4,7 +4,6 @@ pub mod Runs
 pub mod Looser
 pub mod Ages
 pub mod PlaceLaws
-pub mod AdmissionLaws
 pub mod Permitted
 pub mod EffectLaws
 pub mod RefusalLaws

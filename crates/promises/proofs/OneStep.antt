@@ -2,7 +2,6 @@
 -- else is answered as one step is.
 -- Assumes nothing.
 use mathlib.Core.Path.{_≡_, sym, subst, _∙_}
-use mathlib.Core.Logic.{_↔_}
 use mathlib.Core.List.{[], _∷_}
 use Prim.Native.Nat.{ℕ}
 use contract.Lifetimes.{Lfts}
@@ -11,24 +10,15 @@ use denote.Triple.Clauses.{AtExit}
 use Rattle.checks.specs.Conditions.{FirstOf, OneOf}
 use Rattle.checks.proofs.ConditionLaws.{one-of}
 use Rattle.limits.specs.declared.Table.{Table}
-use Rattle.limits.specs.Rules.{brokenRule}
 use Rattle.shift.specs.declared.State.{State}
 use Rattle.shift.specs.declared.Answer.{Answer}
 use Rattle.shift.specs.Answers.{reading}
 use Rattle.shift.proofs.State.step as step-call
 use Rattle.shift.proofs.State.step.Reads as step-reads
-use Rattle.promises.specs.Admission.{rulesStated, Admitted, broken}
+use Rattle.limits.specs.Refusals.{broken}
 use Rattle.promises.specs.Refusals.{Reads, refusals, Answered}
-use Rattle.promises.proofs.AdmissionLaws.{admitted, first-broken}
 use Rattle.promises.proofs.RefusalLaws.{reads}
 use Rattle.promises.proofs.AnswerLaws.{answered, with-its-rule, the-one, of-a-tick, of-another-step}
-
--- a table is admitted where the fifteen rules hold, and the rule that is named is the first broken one
-pub admitted-in-the-document's-words : (t : Table) → (brokenRule t ≡ 0) ↔ Admitted t
-admitted-in-the-document's-words = admitted
-
-pub the-rule-is-the-first-broken-one : (t : Table) → FirstOf (broken 1 (rulesStated t)) (brokenRule t)
-the-rule-is-the-first-broken-one = first-broken
 
 -- what a code, a middle byte and an amount mean
 pub read-in-the-document's-words : (code middle amount : ℕ) → Reads code middle amount (reading code middle amount)
@@ -56,9 +46,9 @@ module _
   a-step-is-answered-in-the-document's-words =
       subst (λ (q : Answer). Answered table state code 0 amount (q .number) (q .state)) (sym call) (answered table state code 0 amount)
 
-  pub a-step-names-the-first-broken-rule : FirstOf (broken 1 (rulesStated table)) (a .rule)
+  pub a-step-names-the-first-broken-rule : FirstOf (broken table) (a .rule)
   a-step-names-the-first-broken-rule =
-      subst (λ (q : Answer). FirstOf (broken 1 (rulesStated table)) (q .rule)) (sym call) (with-its-rule table state code 0 amount)
+      subst (λ (q : Answer). FirstOf (broken table) (q .rule)) (sym call) (with-its-rule table state code 0 amount)
 
 -- ---- whatever is answered so
 module _ (t : Table) (s : State) (code middle amount : ℕ) where

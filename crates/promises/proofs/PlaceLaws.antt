@@ -2,7 +2,7 @@
 -- Assumes nothing.
 use mathlib.Core.Path.{_≡_}
 use mathlib.Core.Logic.{_⊎_, inl, inr}
-use mathlib.Core.Bool.{Bool, true, false, not, _&&_, cond}
+use mathlib.Core.Bool.{Bool, true, false, not, cond}
 use mathlib.Core.List.{[], _∷_}
 use Prim.Native.Nat.{ℕ, _+_, _≤_, _<_}
 use native.Mathlib.Omega.{arith}
@@ -19,11 +19,6 @@ use Rattle.shift.specs.declared.State.{State}
 use Rattle.shift.specs.Steps.{takeBound, stageBound, phaseBound, limited}
 use Rattle.shift.proofs.StepLaws.{by-channel, limits, limited-in, shifting}
 use Rattle.promises.specs.Allowed.{Shifting, Engine}
-
--- two tests that pass, and one that can't fail
-pub both : (a b : Bool) → T a → T b → T (a && b)
-both true b p q = q
-both false b p q = p
 
 pub passing : (b : Bool) → ¬ T (not b) → T b
 passing true n = tt

@@ -17,8 +17,8 @@ use Rattle.shift.specs.Runs.{Outcome, run}
 use Rattle.promises.specs.Allowed.{Permitted}
 use Rattle.promises.specs.Effects.{Makes}
 use Rattle.promises.specs.Kinds.{Kind, lastKind, NotOlder}
-use Rattle.promises.specs.Verdicts.{Exact, joined}
-use Rattle.promises.proofs.Runs.{pieces, beginning}
+use Rattle.promises.specs.Verdicts.{Exact}
+use Rattle.promises.proofs.Runs.{joined, pieces, beginning}
 use Rattle.promises.proofs.Looser.{same-run}
 use Rattle.promises.proofs.Ages.{in-time, covered, sums-admitted}
 use Rattle.promises.proofs.Permitted.{permitted}

@@ -11,7 +11,7 @@ use lib.Dec.{T, leb, ltb, eqb, leb→le, le→leb, ltb→lt, eqb→eq}
 use Rattle.checks.specs.Checks.{Check, _!_, first, Holds}
 use Rattle.checks.specs.Conditions.{Condition, _gives_, FirstOf, OneOf}
 use Rattle.checks.proofs.ConditionLaws.{first-of}
-use Rattle.checks.proofs.Tests.{tests, eq→eqb, case, passes, left, right}
+use Rattle.checks.proofs.Tests.{tests, eq→eqb, case, passes, left, right, both}
 use Rattle.checks.proofs.Ranges.{below}
 use Rattle.limits.specs.declared.Table.{Table}
 use Rattle.phases.proofs.ByPhaseLaws.{each, de-in}
@@ -27,7 +27,7 @@ use Rattle.promises.specs.Allowed.{Listed, Shifting, Permitted}
 use Rattle.promises.specs.Effects.{codeOf, amountOf}
 use Rattle.promises.specs.Refusals.{NoCode, Formed, Malformed, Reads, placings, byCode, Misplaced, WrongSide, TooEarly, TooLate, PastClock, PastStage, PastPhase}
 use Rattle.promises.proofs.Permitted.{said, meant}
-use Rattle.promises.proofs.PlaceLaws.{both, withinEx, engine-phase, engine-order, in-take-time, too-late, in-channel-time, in-device-time, past-stage, in-phase-time, past-phase}
+use Rattle.promises.proofs.PlaceLaws.{withinEx, engine-phase, engine-order, in-take-time, too-late, in-channel-time, in-device-time, past-stage, in-phase-time, past-phase}
 
 -- ---- a condition by the checks that test it: one, or several with its number
 test :

@@ -17,7 +17,6 @@ use Rattle.shift.specs.declared.Step.the-variants.{FromNeutral, GearToGear, ToN
 use Rattle.shift.specs.declared.Answer.{Answer}
 use Rattle.shift.specs.Answers.{checks, guard, led, answer, judged}
 use Rattle.shift.specs.Runs.{Outcome, after, run}
-use Rattle.promises.specs.Verdicts.{resumed, joined}
 
 -- no check has the number 0
 numbered-from-5 : (t : Table) (s : State) (x : Step) → T (absent 0 (checks t s (Means x)))
@@ -52,6 +51,14 @@ went-on zero s rest e = (refl, e)
 went-on (suc k) s rest e = absurd (omega arith)
 
 -- ---- a list in two pieces
+-- the first piece's outcome where it is refused, else the second's, with the counts added
+abbrev pub resumed : ℕ → Outcome → Outcome → Outcome
+resumed zero a b = record { count = a .count + b .count; number = b .number; state = b .state }
+resumed (suc k) a b = a
+
+abbrev pub joined : Outcome → Outcome → Outcome
+joined a b = resumed (a .number) a b
+
 resumes : (s : State) (k : ℕ) (a b : Outcome) → after 0 s (resumed k a b) ≡ resumed k (after 0 s a) b
 resumes s zero a b = rw suc-add
 resumes s (suc k) a b = refl

@@ -13,7 +13,7 @@ use Rattle.shift.specs.declared.State.{State}
 use Rattle.shift.specs.declared.Step.{Step}
 use Rattle.shift.specs.declared.Reading.{Reading}
 use Rattle.shift.specs.declared.Reading.the-variants.{Means, WrongCode, WrongAmount}
-use Rattle.promises.specs.Admission.{Admitted}
+use Rattle.limits.specs.Refusals.{Admitted}
 use Rattle.promises.specs.Allowed.{Listed, Shifting, Engine}
 use Rattle.promises.specs.Effects.{Effect, codeOf, amountOf}
 

@@ -1,8 +1,8 @@
--- Document 01: what judging a list of steps answers, said of the answer alone; and a list in two pieces.
+-- Document 01: what judging a list of steps answers, said of the answer alone.
 -- Assumes nothing.
 use mathlib.Core.Path.{_≡_}
 use mathlib.Core.List.{List, [], _∷_}
-use Prim.Native.Nat.{ℕ, zero, suc, _+_, _<_}
+use Prim.Native.Nat.{ℕ, _<_}
 use lib.ListN.{length, getD, take}
 use Rattle.limits.specs.declared.Table.{Table}
 use Rattle.shift.specs.declared.State.{State}
@@ -29,11 +29,3 @@ pub record Exact (t : Table) (s : State) (rs : List Reading) (o : Outcome) : Typ
   pub state : o .state ≡ leads s (take (o .count) rs)
   pub refused : ¬ (o .number ≡ 0) → (o .count < length rs) × (guard t (o .state) (at rs (o .count)) ≡ o .number)
   pub accepted : o .number ≡ 0 → o .count ≡ length rs
-
--- the first piece's outcome where it is refused, else the second's, with the counts added
-abbrev pub resumed : ℕ → Outcome → Outcome → Outcome
-resumed zero a b = record { count = a .count + b .count; number = b .number; state = b .state }
-resumed (suc k) a b = a
-
-abbrev pub joined : Outcome → Outcome → Outcome
-joined a b = resumed (a .number) a b

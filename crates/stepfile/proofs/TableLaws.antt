@@ -5,7 +5,7 @@ use mathlib.Core.Bool.{cond, _||_, and-false}
 use mathlib.Core.List.{List, [], _∷_, _++_}
 use Prim.Native.Nat.{ℕ, zero, suc, _+_, _*_, _/_, _%_, _≤_}
 use native.Mathlib.Omega.{arith}
-use lib.Dec.{T, leb, eqb}
+use lib.Dec.{T, eqb}
 use lib.ListN.{length, drop}
 use lib.Seq.{drop-at, getD-drop}
 use borrow.Author.Tests.{eq-eqb, ne-eqb, le-leb}

@@ -3,17 +3,22 @@
 -- Assumes nothing.
 use mathlib.Core.Path.{_≡_, refl, sym, ap, _∙_}
 use mathlib.Core.List.{List, [], _∷_, _++_}
-use Prim.Native.Nat.{ℕ, _+_, _-_, _≤_, _<_}
+use Prim.Native.Nat.{ℕ, zero, suc, _+_, _-_, _≤_, _<_}
 use native.Mathlib.Omega.{arith}
 use lib.ListN.{length, take, drop, length-append}
 use lib.Seq.{take-at, take-take, take-length, drop-append-seam, length-take-le}
 use Rattle.checks.proofs.Tests.{tests}
-use Rattle.transfer.specs.Transfers.{Arrival, Store, empty, answer, after, afterAll, Keeps, Cut, AcceptedCut, Begins, fortySteps, holding, under}
+use Rattle.transfer.specs.Transfers.{Arrival, Store, empty, answer, after, afterAll, Cut, AcceptedCut, Begins}
 use Rattle.transfer.proofs.JoinLaws.{refused-at, inside, count-inside, appended-inside, length-appended}
 use Rattle.transfer.proofs.CutLaws.{drop-take}
 use Rattle.transfer.proofs.Transfers.{grown, refused-keeps, accepted-grows, either-way, accepted-holds, beyond-refused, cut-accepted, beginning}
 
 -- ---- a block that comes again, and one that comes too early
+
+-- one join: the answer is the number n, and what is stored stays as it was
+abbrev pub Keeps : ℕ → Store → Arrival → Type 0
+Keeps n s a = (answer s a ≡ record { number = n; held = s .held }) × (after s a ≡ s)
+
 module _ (s : Store) (a : Arrival) (fits : s .held ≤ length (s .buffer)) where
   -- a part that is cut from the held bytes at its true offset changes nothing
   pub repeated : Cut (take (s .held) (s .buffer)) a → Keeps 0 s a
@@ -88,7 +93,13 @@ module _ (buffer : List ℕ) (arrivals : List Arrival) where
       (a : Arrival) → afterAll (empty buffer) arrivals .held < a .offset → Keeps 14 (afterAll (empty buffer) arrivals) a
   block-early a l = too-early night a night-fits l
 
--- ---- a block that is the last of the bytes held
+-- ---- a block that is the last of the bytes held, and a block under an offset
+abbrev pub holding : List ℕ → List ℕ → List ℕ → Store
+holding before block room = record { buffer = before ++ block ++ room; held = length before + length block }
+
+abbrev pub under : ℕ → List ℕ → Arrival
+under offset block = record { offset = offset; part = block }
+
 module _ (before block room : List ℕ) where
   held-bytes : take (length before + length block) (before ++ block ++ room) ≡ before ++ block
   held-bytes = take-at (before ++ block) room (length before + length block) (length-append before block)
@@ -107,7 +118,14 @@ module _ (before block room : List ℕ) where
   pub last-early : (n : ℕ) → length before + length block < n → Keeps 14 (holding before block room) (under n block)
   last-early n l = too-early (holding before block room) (under n block) holding-fits l
 
--- forty steps are such a block, of 160 bytes
+-- ---- forty steps, in four bytes each: ticks of 1 to 40 milliseconds
+abbrev pub ticks : ℕ → ℕ → List ℕ
+ticks n zero = []
+ticks n (suc count) = 12 ∷ 0 ∷ n ∷ 0 ∷ ticks (suc n) count
+
+abbrev pub fortySteps : List ℕ
+fortySteps = ticks 1 40
+
 pub forty-length : length fortySteps ≡ 160
 forty-length = refl
 

@@ -8,14 +8,14 @@ use mathlib.Core.List.{List, [], _∷_}
 use Prim.Native.Nat.{ℕ, _+_, _≤_, _<_, max}
 use native.Mathlib.Omega.{arith}
 use lib.Dec.{eqb}
-use lib.ListN.{length, take}
+use lib.ListN.{length, take, drop}
 use lib.Seq.{take-length}
 use borrow.Author.Tests.{eqb-true}
 use Rattle.checks.specs.Checks.{Holds}
 use Rattle.checks.proofs.Checks.{first→holds, refused}
 use Rattle.checks.proofs.Tests.{tests, case}
 use Rattle.transfer.specs.Join.{checks, newCount, appended}
-use Rattle.transfer.specs.Transfers.{Arrival, Store, empty, answer, after, afterAll, Unchanged, Cut, AcceptedCut, Begins, Reaches}
+use Rattle.transfer.specs.Transfers.{Arrival, Store, empty, answer, after, afterAll, Cut, AcceptedCut, Begins, Reaches}
 use Rattle.transfer.proofs.JoinLaws.{accepted, length-appended, held-stay, beyond-stay}
 use Rattle.transfer.proofs.CutLaws.{overlap-agrees, count-within, still-begins}
 
@@ -54,7 +54,11 @@ module _ (s : Store) (a : Arrival) where
         bytes = still-begins file (s .buffer) (s .held) (a .offset) (a .part) l (b .within) (b .bytes) (c .within) (c .bytes);
       }
 
--- the bytes that were held and those beyond the new count stay as they were
+-- the bytes that were held stay as they were, and so do those beyond the new count
+abbrev pub Unchanged : Store → Store → Type 0
+Unchanged s t =
+    (take (s .held) (t .buffer) ≡ take (s .held) (s .buffer)) × (drop (t .held) (t .buffer) ≡ drop (t .held) (s .buffer))
+
 pub unchanged : (s : Store) (a : Arrival) → Unchanged s (after s a)
 unchanged s a =
     either-way s a (Unchanged s)

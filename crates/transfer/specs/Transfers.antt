@@ -2,8 +2,8 @@
 -- Assumes nothing.
 use mathlib.Core.Path.{_≡_}
 use mathlib.Core.Logic.{_⊎_}
-use mathlib.Core.List.{List, [], _∷_, _++_}
-use Prim.Native.Nat.{ℕ, zero, suc, _+_, _≤_, max}
+use mathlib.Core.List.{List, [], _∷_}
+use Prim.Native.Nat.{ℕ, _+_, _≤_, max}
 use lib.ListN.{length, take, drop}
 use Rattle.transfer.specs.declared.Joined.{Joined}
 use Rattle.transfer.specs.Join.{joined, bufferAfter}
@@ -32,15 +32,6 @@ abbrev pub afterAll : Store → List Arrival → Store
 afterAll s [] = s
 afterAll s (a ∷ arrivals) = afterAll (after s a) arrivals
 
--- one join: the bytes held before stay as they were, and so do those beyond the new count
-abbrev pub Unchanged : Store → Store → Type 0
-Unchanged s t =
-    (take (s .held) (t .buffer) ≡ take (s .held) (s .buffer)) × (drop (t .held) (t .buffer) ≡ drop (t .held) (s .buffer))
-
--- one join: the answer is the number n, and what is stored stays as it was
-abbrev pub Keeps : ℕ → Store → Arrival → Type 0
-Keeps n s a = (answer s a ≡ record { number = n; held = s .held }) × (after s a ≡ s)
-
 -- the part is cut from the file at its stated offset
 pub record Cut (file : List ℕ) (a : Arrival) : Type 0 where
   pub within : a .offset + length (a .part) ≤ length file
@@ -63,18 +54,3 @@ Reaches file end far [] = end ≡ far
 Reaches file end far (a ∷ arrivals) =
     (Cut file a × (a .offset ≤ end) × Reaches file (max end (a .offset + length (a .part))) far arrivals)
     ⊎ Reaches file end far arrivals
-
--- a block that is the last of the bytes held, and a block under an offset
-abbrev pub holding : List ℕ → List ℕ → List ℕ → Store
-holding before block room = record { buffer = before ++ block ++ room; held = length before + length block }
-
-abbrev pub under : ℕ → List ℕ → Arrival
-under offset block = record { offset = offset; part = block }
-
--- forty steps, in four bytes each: ticks of 1 to 40 milliseconds
-abbrev pub ticks : ℕ → ℕ → List ℕ
-ticks n zero = []
-ticks n (suc count) = 12 ∷ 0 ∷ n ∷ 0 ∷ ticks (suc n) count
-
-abbrev pub fortySteps : List ℕ
-fortySteps = ticks 1 40
