@@ -4,7 +4,8 @@
  *
  * For each vehicle the parts are joined in a buffer of its own, the file is judged, and the line of its verdict is printed. Then a
  * running judge for each vehicle is advanced by one record at a time, the two in turns, and its end is held to the line.
- * The status is 0 where both agree with their lines.
+ * The status is 0 where both agree with their lines, 1 where one does not, 2 where it is not given two files that it can read, and
+ * 3 where the output can not be written.
  */
 #include <stdio.h>
 #include <string.h>
@@ -36,15 +37,17 @@ static size_t u32_at(const uint8_t *bytes)
     return bytes[0] + ((size_t)bytes[1] << 8) + ((size_t)bytes[2] << 16) + ((size_t)bytes[3] << 24);
 }
 
-/* Reads a file of at most MUNASIREL_LONGEST_FILE bytes into sent; returns 0 where that is not possible. */
-static int load(const char *name, size_t *length)
+/* Reads a file of at most MUNASIREL_LONGEST_FILE bytes into sent; returns what is wrong, or NULL. A file that could be read in part
+ * is not judged: its end may be missing. */
+static const char *load(const char *name, size_t *length)
 {
     FILE *file = fopen(name, "rb");
     if (!file)
-        return 0;
+        return "can not be opened";
     *length = fread(sent, 1, sizeof sent, file);
+    int failed = ferror(file);
     fclose(file);
-    return *length < sizeof sent;
+    return failed ? "can not be read" : *length == sizeof sent ? "is longer than a step file can be" : NULL;
 }
 
 /* Receives a file in parts of 16 bytes until all of it is held. The radio repeats the second sending and drops the fourth and the
@@ -119,13 +122,14 @@ static int agrees(const struct vehicle *v)
 int main(int count, char **names)
 {
     if (count != 3) {
-        printf("usage: gateway FILE FILE\n");
+        fprintf(stderr, "usage: gateway FILE FILE\n");
         return 2;
     }
     for (int i = 0; i < 2; i++) {
         size_t length;
-        if (!load(names[i + 1], &length)) {
-            printf("%s: can not be read, or is too long\n", names[i + 1]);
+        const char *wrong = load(names[i + 1], &length);
+        if (wrong) {
+            fprintf(stderr, "gateway: %s: %s\n", names[i + 1], wrong);
             return 2;
         }
         printf("vehicle %d sends %s, %zu bytes\n", i + 1, names[i + 1], length);
@@ -139,6 +143,10 @@ int main(int count, char **names)
     for (int i = 0; i < 2; i++) {
         printf("vehicle %d, record by record: ", i + 1);
         same &= agrees(&vehicles[i]);
+    }
+    if (fflush(stdout) || ferror(stdout)) {
+        fprintf(stderr, "gateway: the output can not be written\n");
+        return 3;
     }
     return same ? 0 : 1;
 }
