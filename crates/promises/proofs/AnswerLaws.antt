@@ -24,11 +24,11 @@ use Rattle.shift.specs.declared.Answer.{Answer}
 use Rattle.shift.specs.Answers.{reading, guard, led, answer, judged, admitting}
 use Rattle.limits.specs.Refusals.{broken}
 use Rattle.promises.specs.Effects.{Effect, codeOf, amountOf}
-use Rattle.promises.specs.Refusals.{Reads, refusals, Answered}
+use Rattle.promises.specs.Refusals.{Reads, recordRefusals, refusals, Answered}
 use Rattle.limits.proofs.Refusals.{in-order, admitted-in-the-document's-words}
 use Rattle.promises.proofs.Permitted.{permitted}
 use Rattle.promises.proofs.EffectLaws.{effects}
-use Rattle.promises.proofs.RefusalLaws.{no-request, a-code, from-5, of-reading, reads}
+use Rattle.promises.proofs.RefusalLaws.{no-request, a-code, reads, first-refusal}
 
 -- ---- number and state of an answer, by the broken rule k and the guard's g
 module _ (next s : State) where
@@ -104,7 +104,7 @@ module _ (t : Table) (s : State) (code middle amount : ℕ) where
   answered =
       let r = reading code middle amount in
       let read = reads middle amount code in record {
-        first = numbered (led s r) s (brokenRule t) (guard t s r) (from-5 t s code middle amount) (admitted-in-the-document's-words t) (of-reading t s code middle amount r read);
+        first = numbered (led s r) s (brokenRule t) (guard t s r) (recordRefusals t s code middle amount) (admitted-in-the-document's-words t) (first-refusal t s code middle amount);
         refused = given-back (led s r) s (brokenRule t) (guard t s r);
         accepted = λ z.
             let w = gone-on (led s r) s (brokenRule t) (guard t s r) z in

@@ -12,17 +12,22 @@ use Rattle.checks.proofs.ConditionLaws.{one-of}
 use Rattle.limits.specs.declared.Table.{Table}
 use Rattle.shift.specs.declared.State.{State}
 use Rattle.shift.specs.declared.Answer.{Answer}
-use Rattle.shift.specs.Answers.{reading}
+use Rattle.shift.specs.Answers.{reading, guard}
 use Rattle.shift.proofs.State.step as step-call
 use Rattle.shift.proofs.State.step.Reads as step-reads
 use Rattle.limits.specs.Refusals.{broken}
-use Rattle.promises.specs.Refusals.{Reads, refusals, Answered}
-use Rattle.promises.proofs.RefusalLaws.{reads}
+use Rattle.promises.specs.Refusals.{Reads, recordRefusals, refusals, Answered}
+use Rattle.promises.proofs.RefusalLaws.{reads, first-refusal}
 use Rattle.promises.proofs.AnswerLaws.{answered, with-its-rule, the-one, of-a-tick, of-another-step}
 
 -- what a code, a middle byte and an amount mean
 pub read-in-the-document's-words : (code middle amount : ℕ) → Reads code middle amount (reading code middle amount)
 read-in-the-document's-words code middle amount = reads middle amount code
+
+-- the number of a record, where the table has been tested: the first whose condition holds, and 0 where none does
+pub refused-in-the-document's-words :
+    (t : Table) (s : State) (code middle amount : ℕ) → FirstOf (recordRefusals t s code middle amount) (guard t s (reading code middle amount))
+refused-in-the-document's-words = first-refusal
 
 -- ---- whatever the contract of `State::step` allows
 module _

@@ -25,7 +25,7 @@ use Rattle.shift.specs.Answers.{plain, ticking, reading, listed, checks, guard}
 use Rattle.shift.proofs.ReadingLaws.{past-codes}
 use Rattle.promises.specs.Allowed.{Listed, Shifting, Permitted}
 use Rattle.promises.specs.Effects.{codeOf, amountOf}
-use Rattle.promises.specs.Refusals.{NoCode, Formed, Malformed, Reads, placings, byCode, Misplaced, WrongSide, TooEarly, TooLate, PastClock, PastStage, PastPhase}
+use Rattle.promises.specs.Refusals.{NoCode, Formed, Reads, placings, byCode, Misplaced, WrongSide, TooEarly, TooLate, PastClock, PastStage, PastPhase, recordRefusals}
 use Rattle.promises.proofs.Permitted.{said, meant}
 use Rattle.promises.proofs.PlaceLaws.{withinEx, engine-phase, engine-order, in-take-time, too-late, in-channel-time, in-device-time, past-stage, in-phase-time, past-phase}
 
@@ -53,17 +53,17 @@ several (c ∷ cs) rest k P ws o f g r =
     (λ e. rw e (inl (g (λ h. subst T e (h .0)), eqb→eq (c .number) k (left (eqb (c .number) k) (only k cs) o))))
 
 -- ---- what a step is refused with, on the state: 7 and on, 8 and on, 9 and on, 13 and on
-abbrev pub from-13 : Table → State → ℕ → ℕ → List Condition
+abbrev from-13 : Table → State → ℕ → ℕ → List Condition
 from-13 t s code amount =
     (PastClock s code amount gives 13) ∷ (PastStage t s code amount gives 12) ∷ (PastPhase t s code amount gives 11) ∷ []
 
-abbrev pub from-9 : Table → State → ℕ → ℕ → List Condition
+abbrev from-9 : Table → State → ℕ → ℕ → List Condition
 from-9 t s code amount = (TooEarly t s code gives 9) ∷ (TooLate t s code gives 10) ∷ from-13 t s code amount
 
-abbrev pub from-8 : Table → State → ℕ → ℕ → List Condition
+abbrev from-8 : Table → State → ℕ → ℕ → List Condition
 from-8 t s code amount = (WrongSide s code gives 8) ∷ from-9 t s code amount
 
-abbrev pub from-7 : Table → State → ℕ → ℕ → List Condition
+abbrev from-7 : Table → State → ℕ → ℕ → List Condition
 from-7 t s code amount = (Misplaced s code gives 7) ∷ from-8 t s code amount
 
 module _ (t : Table) (s : State) (amount : ℕ) where
@@ -216,11 +216,8 @@ on-state t s Finish = placed t s 0 11 Finish tt (λ p. p, λ p. p) (omega arith)
 on-state t s (Tick n) = tick t s n
 
 -- ---- by what was read
-abbrev pub from-5 : Table → State → ℕ → ℕ → ℕ → List Condition
-from-5 t s code middle amount = (NoCode code gives 5) ∷ (Malformed code middle amount gives 6) ∷ from-7 t s code amount
-
 module _ (t : Table) (s : State) (code middle amount : ℕ) where
-  pub of-reading : (r : Reading) → Reads code middle amount r → FirstOf (from-5 t s code middle amount) (guard t s r)
+  of-reading : (r : Reading) → Reads code middle amount r → FirstOf (recordRefusals t s code middle amount) (guard t s r)
   of-reading (Means x) h =
       inr (
         h .0,
@@ -290,3 +287,8 @@ module _ (middle amount : ℕ) where
         | yes h ↦ by-code code h
         | no h ↦ rw (past-codes middle amount code (omega arith)) (inr (omega arith))
       ]
+
+-- the number of a record, under a table that has been tested
+pub first-refusal :
+    (t : Table) (s : State) (code middle amount : ℕ) → FirstOf (recordRefusals t s code middle amount) (guard t s (reading code middle amount))
+first-refusal t s code middle amount = of-reading t s code middle amount (reading code middle amount) (reads middle amount code)

@@ -87,14 +87,12 @@ PastStage t s code amount =
 
 -- 11: a tick past the phase limit
 abbrev pub PastPhase : Table → State → ℕ → ℕ → Type 0
-PastPhase t s code amount =
-    (code ≡ 12) × Shifting s × (s .«phase_time» + phaseLimitIn t (s .phase) < s .clock + amount)
+PastPhase t s code amount = (code ≡ 12) × Shifting s × (s .«phase_time» + phaseLimitIn t (s .phase) < s .clock + amount)
 
--- in the order of one step, 4 to 10, and of a tick, 4 to 7, 13, 12 and 11
-abbrev pub refusals : Table → State → ℕ → ℕ → ℕ → List Condition
-refusals t s code middle amount =
-    (NotAdmitted t gives 4)
-    ∷ (NoCode code gives 5)
+-- in the order of one step, 4 to 10, and of a tick, 4 to 7, 13, 12 and 11; the table once tested, from 5 on
+abbrev pub recordRefusals : Table → State → ℕ → ℕ → ℕ → List Condition
+recordRefusals t s code middle amount =
+    (NoCode code gives 5)
     ∷ (Malformed code middle amount gives 6)
     ∷ (Misplaced s code gives 7)
     ∷ (WrongSide s code gives 8)
@@ -104,6 +102,9 @@ refusals t s code middle amount =
     ∷ (PastStage t s code amount gives 12)
     ∷ (PastPhase t s code amount gives 11)
     ∷ []
+
+abbrev pub refusals : Table → State → ℕ → ℕ → ℕ → List Condition
+refusals t s code middle amount = (NotAdmitted t gives 4) ∷ recordRefusals t s code middle amount
 
 -- ---- what a code, a middle byte and an amount mean
 abbrev pub Reads : ℕ → ℕ → ℕ → Reading → Type 0

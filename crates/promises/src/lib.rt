@@ -1,1 +1,2 @@
-// No code: specs/ has the twelve steps in the document's own words and the kinds of shifts, proofs/ the customer's demands as theorems.
+// No code: specs/ has the rules a second time in the document's own words, and the kinds of shifts; proofs/ has the customer's demands
+// as theorems.
