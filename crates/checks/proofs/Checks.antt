@@ -9,10 +9,15 @@ use native.Mathlib.Decide.{decLt}
 use native.Mathlib.Omega.{arith}
 use lib.Dec.{T, leb, ltb, eqb, leb→le}
 use borrow.Author.Tests.{eqb-false, not-true, le-leb, lt-leb, le-ltb, lt-ltb}
-use Rattle.checks.specs.Checks.{Check, _!_, first, Holds}
+use Rattle.checks.specs.Checks.{Check, _!_, first}
 use Rattle.checks.proofs.Tests.{passed, left, right, case}
 
 -- ---- a list that holds answers 0
+-- all of them hold
+abbrev pub Holds : List Check → Type 0
+Holds [] = Unit {0}
+Holds (c ∷ cs) = T (c .ok) × Holds cs
+
 holding : (b : Bool) (m n k : ℕ) → T b → m ≡ k → cond b m n ≡ k
 holding true m n k t e = e
 holding false m n k t e = absurd t

@@ -4,7 +4,6 @@
 use mathlib.Core.Bool.{Bool, cond}
 use mathlib.Core.List.{List, [], _∷_}
 use Prim.Native.Nat.{ℕ, suc}
-use lib.Dec.{T}
 
 -- a test, and the number that refuses what fails it
 pub record Check : Type 0 where
@@ -19,11 +18,6 @@ b ! n = record { ok = b; number = n }
 abbrev pub first : List Check → ℕ
 first [] = 0
 first (c ∷ cs) = cond (c .ok) (first cs) (c .number)
-
--- all of them hold
-abbrev pub Holds : List Check → Type 0
-Holds [] = Unit {0}
-Holds (c ∷ cs) = T (c .ok) × Holds cs
 
 -- tests with the numbers n, n + 1 and so on
 abbrev pub numbered : ℕ → List Bool → List Check

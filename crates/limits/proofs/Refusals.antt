@@ -7,10 +7,10 @@ use mathlib.Core.Bool.{Bool}
 use mathlib.Core.List.{List, [], _∷_, map}
 use Prim.Native.Nat.{ℕ, suc, _≤_}
 use lib.Dec.{T, leb, leb→le, le→leb, T-not}
-use Rattle.checks.specs.Checks.{Holds, numbered}
+use Rattle.checks.specs.Checks.{numbered}
 use Rattle.checks.specs.Conditions.{FirstOf}
 use Rattle.checks.proofs.ConditionLaws.{Tested, first-of}
-use Rattle.checks.proofs.Checks.{holds→first, first→holds, at-most}
+use Rattle.checks.proofs.Checks.{Holds, holds→first, first→holds, at-most}
 use Rattle.checks.proofs.Tests.{left, right, both}
 use Rattle.limits.specs.declared.Table.{Table}
 use Rattle.limits.specs.Limits.{entries}

@@ -8,9 +8,9 @@ use native.Mathlib.Omega.{arith}
 use lib.Dec.{eqb}
 use lib.ListN.{getD}
 use borrow.Author.Tests.{ne-eqb}
-use Rattle.checks.specs.Checks.{Holds, numbered}
+use Rattle.checks.specs.Checks.{numbered}
 use Rattle.checks.proofs.Tests.{tests}
-use Rattle.checks.proofs.Checks.{first→holds}
+use Rattle.checks.proofs.Checks.{Holds, first→holds}
 use Rattle.checks.proofs.Ranges.{from}
 use Rattle.limits.specs.declared.Table.{Table}
 use Rattle.limits.specs.Rules.{rules, brokenRule}

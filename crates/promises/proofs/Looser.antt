@@ -5,9 +5,8 @@ use mathlib.Core.List.{List, [], _∷_}
 use Prim.Native.Nat.{ℕ, _≤_, _<_}
 use native.Mathlib.Omega.{arith}
 use lib.ListN.{getD}
-use Rattle.checks.specs.Checks.{Holds}
 use Rattle.checks.proofs.Tests.{tests}
-use Rattle.checks.proofs.Checks.{holds→first}
+use Rattle.checks.proofs.Checks.{Holds, holds→first}
 use Rattle.checks.proofs.Ranges.{below}
 use Rattle.limits.specs.declared.Table.{Table}
 use Rattle.limits.specs.Tighter.{NowhereTighter}

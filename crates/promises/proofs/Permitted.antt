@@ -4,9 +4,8 @@ use mathlib.Core.Path.{_≡_}
 use mathlib.Core.Logic.{⊎-elim, _↔_}
 use Prim.Native.Nat.{_+_, _≤_}
 use native.Mathlib.Omega.{arith}
-use Rattle.checks.specs.Checks.{Holds}
 use Rattle.checks.proofs.Tests.{tests}
-use Rattle.checks.proofs.Checks.{holds→first}
+use Rattle.checks.proofs.Checks.{Holds, holds→first}
 use Rattle.limits.specs.declared.Table.{Table}
 use Rattle.phases.specs.Phases.{orderOf}
 use Rattle.phases.proofs.ByPhaseLaws.{de-in}

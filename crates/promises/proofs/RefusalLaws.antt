@@ -8,7 +8,8 @@ use Prim.Native.Nat.{ℕ, _+_, _≤_, _<_}
 use native.Mathlib.Decide.{decLt}
 use native.Mathlib.Omega.{arith}
 use lib.Dec.{T, leb, ltb, eqb, leb→le, le→leb, ltb→lt, eqb→eq}
-use Rattle.checks.specs.Checks.{Check, _!_, first, Holds}
+use Rattle.checks.specs.Checks.{Check, _!_, first}
+use Rattle.checks.proofs.Checks.{Holds}
 use Rattle.checks.specs.Conditions.{Condition, _gives_, FirstOf, OneOf}
 use Rattle.checks.proofs.ConditionLaws.{first-of}
 use Rattle.checks.proofs.Tests.{tests, eq→eqb, case, passes, left, right, both}

@@ -6,8 +6,7 @@ use Prim.Native.Nat.{ℕ, zero, suc, _+_}
 use native.Mathlib.Nat.{zero-add, suc-add}
 use native.Mathlib.Omega.{arith}
 use lib.Dec.{T}
-use Rattle.checks.specs.Checks.{Holds}
-use Rattle.checks.proofs.Checks.{absent, first→holds}
+use Rattle.checks.proofs.Checks.{Holds, absent, first→holds}
 use Rattle.limits.specs.declared.Table.{Table}
 use Rattle.shift.specs.declared.State.{State}
 use Rattle.shift.specs.declared.Reading.{Reading}

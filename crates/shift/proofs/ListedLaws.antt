@@ -5,8 +5,8 @@ use mathlib.Core.Bool.{Bool, true, false, cond, _||_}
 use Prim.Native.Nat.{ℕ, zero, suc, _≤_}
 use native.Mathlib.Omega.{arith}
 use lib.Dec.{T, leb, eqb, leb→le, le→leb}
-use Rattle.checks.specs.Checks.{first, Holds}
-use Rattle.checks.proofs.Checks.{first-left, first-right}
+use Rattle.checks.specs.Checks.{first}
+use Rattle.checks.proofs.Checks.{Holds, first-left, first-right}
 use Rattle.limits.specs.declared.Table.{Table}
 use Rattle.phases.specs.Phases.{unfinished}
 use Rattle.phases.proofs.PhaseLaws.{next-listed, clutch-listed}

@@ -7,8 +7,8 @@ use Prim.Native.Nat.{ℕ}
 use native.Mathlib.Omega.{arith}
 use lib.Dec.{T, eqb}
 use borrow.Author.Tests.{eq-eqb, ne-eqb}
-use Rattle.checks.specs.Checks.{Check, _!_, first, Holds}
-use Rattle.checks.proofs.Checks.{absent, first→holds, first-left, first-right}
+use Rattle.checks.specs.Checks.{Check, _!_, first}
+use Rattle.checks.proofs.Checks.{Holds, absent, first→holds, first-left, first-right}
 use Rattle.limits.specs.Rules.{brokenRule}
 use Rattle.stepfile.specs.Files.{headed, tableIn, checks, refusing, refusalOf}
 

@@ -9,9 +9,9 @@ use native.Mathlib.Omega.{arith}
 use lib.Dec.{T, eqb, eqb→eq}
 use lib.ListN.{length}
 use borrow.Author.Tests.{eqb-true, eqb-false, eq-eqb, ne-eqb}
-use Rattle.checks.specs.Checks.{Check, _!_, first, Holds}
+use Rattle.checks.specs.Checks.{Check, _!_, first}
 use Rattle.checks.specs.Conditions.{Condition, _gives_, _else_, FirstOf}
-use Rattle.checks.proofs.Checks.{first→holds, first-append, first-left, first-right, at-most}
+use Rattle.checks.proofs.Checks.{Holds, first→holds, first-append, first-left, first-right, at-most}
 use Rattle.checks.proofs.ConditionLaws.{first-of, of-left, of-right}
 use Rattle.checks.proofs.Tests.{tests, case, either, neqb→ne}
 use Rattle.limits.specs.declared.Table.{Table}

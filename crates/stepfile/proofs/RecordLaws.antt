@@ -5,9 +5,14 @@ use mathlib.Core.List.{List, [], _∷_}
 use Prim.Native.Nat.{ℕ, suc, _+_, _≤_, _<_}
 use native.Mathlib.Numerals.{towards-suc}
 use native.Mathlib.Omega.{arith}
-use lib.ListN.{length, drop, length-drop}
+use lib.ListN.{length, getD, drop, length-drop}
 use lib.Seq.{drop-cons}
-use Rattle.stepfile.specs.Records.{recordAt, recordsIn}
+use Rattle.shift.specs.declared.Reading.{Reading}
+use Rattle.stepfile.specs.Records.{recordOf, recordsIn}
+
+-- the record at a place of a part
+abbrev pub recordAt : List ℕ → ℕ → Reading
+recordAt l i = recordOf (getD l i 0) (getD l (i + 1) 0) (getD l (i + 2) 0) (getD l (i + 3) 0)
 
 pub one-more : (l : List ℕ) (i : ℕ) → i + 3 < length l → recordsIn (drop i l) ≡ recordAt l i ∷ recordsIn (drop (i + 4) l)
 one-more l i h =

@@ -9,8 +9,8 @@ use native.Mathlib.Omega.{arith}
 use lib.Dec.{T, leb, eqb}
 use lib.ListN.{length, drop, length-drop}
 use lib.Seq.{getD-drop}
-use Rattle.checks.specs.Checks.{_!_, first, Holds}
-use Rattle.checks.proofs.Checks.{holds→first, first→holds}
+use Rattle.checks.specs.Checks.{_!_, first}
+use Rattle.checks.proofs.Checks.{Holds, holds→first, first→holds}
 use Rattle.checks.proofs.Tests.{tests}
 use Rattle.limits.specs.Limits.{entries, tableOf}
 use Rattle.limits.specs.Rules.{brokenRule}

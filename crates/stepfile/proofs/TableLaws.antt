@@ -9,8 +9,7 @@ use lib.Dec.{T, eqb}
 use lib.ListN.{length, drop}
 use lib.Seq.{drop-at, getD-drop}
 use borrow.Author.Tests.{eq-eqb, ne-eqb, le-leb}
-use Rattle.checks.specs.Checks.{Holds}
-use Rattle.checks.proofs.Checks.{holds→first}
+use Rattle.checks.proofs.Checks.{Holds, holds→first}
 use Rattle.checks.proofs.Tests.{tests}
 use Rattle.limits.specs.Limits.{tableOf, default}
 use Rattle.limits.specs.Rules.{brokenRule}

@@ -2,17 +2,12 @@
 -- Assumes nothing.
 use mathlib.Core.List.{List, [], _∷_}
 use Prim.Native.Nat.{ℕ, _+_, _*_}
-use lib.ListN.{getD}
 use Rattle.shift.specs.declared.Reading.{Reading}
 use Rattle.shift.specs.Answers.{reading}
 
 -- code, a zero byte, amount
 abbrev pub recordOf : ℕ → ℕ → ℕ → ℕ → Reading
 recordOf code middle low high = reading code middle (low + 256 * high)
-
--- the record at a place of a part
-abbrev pub recordAt : List ℕ → ℕ → Reading
-recordAt l i = recordOf (getD l i 0) (getD l (i + 1) 0) (getD l (i + 2) 0) (getD l (i + 3) 0)
 
 -- what is taken of each four bytes, one record after the other; fewer than four that are left over are no record
 abbrev pub everyFour : {A : Type 0} → (ℕ → ℕ → ℕ → ℕ → A) → List ℕ → List A

@@ -11,8 +11,7 @@ use lib.Dec.{eqb}
 use lib.ListN.{length, take, drop}
 use lib.Seq.{take-length}
 use borrow.Author.Tests.{eqb-true}
-use Rattle.checks.specs.Checks.{Holds}
-use Rattle.checks.proofs.Checks.{first→holds, refused}
+use Rattle.checks.proofs.Checks.{Holds, first→holds, refused}
 use Rattle.checks.proofs.Tests.{tests, case}
 use Rattle.transfer.specs.Join.{checks, newCount, appended}
 use Rattle.transfer.specs.Transfers.{Arrival, Store, empty, answer, after, afterAll, Cut, AcceptedCut, Begins, Reaches}

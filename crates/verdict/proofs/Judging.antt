@@ -17,9 +17,9 @@ use Rattle.shift.specs.Answers.{guard, led, answer, judged}
 use Rattle.shift.proofs.AnswerLaws.{refuses}
 use Rattle.shift.specs.Runs.{Outcome, run}
 use Rattle.stepfile.specs.declared.Refusal.{Refusal}
-use Rattle.stepfile.specs.Records.{recordAt, recordsIn}
+use Rattle.stepfile.specs.Records.{recordsIn}
 use Rattle.stepfile.specs.Files.{tableIn, refusalOf, fromOffset, recordBytes, readingsOf}
-use Rattle.stepfile.proofs.RecordLaws.{one-more, no-more}
+use Rattle.stepfile.proofs.RecordLaws.{recordAt, one-more, no-more}
 use Rattle.verdict.specs.Verdicts.{ofRun, unread, reading, verdictOf}
 
 -- what is left of a part from a place on

@@ -1,12 +1,12 @@
 // Judging a step file's bytes, and the line that says the verdict.
 ghost use mathlib.Core.Path.{_≡_};
 ghost use Prim.Native.Nat.{_+_, _<_};
-ghost use lib.ListN.{length};
-ghost use Rattle.checks.specs.Checks.{first, Holds};
+ghost use lib.ListN.{length, getD};
+ghost use Rattle.checks.specs.Checks.{first};
 ghost use Rattle.limits.specs.declared.Table.{Table};
 ghost use Rattle.shift.specs.Answers.{listed};
 ghost use Rattle.shift.specs.Runs.{run};
-ghost use Rattle.stepfile.specs.Records.{recordAt, recordsIn};
+ghost use Rattle.stepfile.specs.Records.{recordOf, recordsIn};
 ghost use Rattle.line.specs.Laying.{laid, after};
 ghost use Rattle.verdict.specs.Verdicts.{ofRun, verdictOf};
 ghost use Rattle.verdict.specs.Said.{wordFor, said, lineFor};
@@ -121,20 +121,20 @@ fn judge_unlisted(state: State, unlisted: u8, records: &[u8]) -> Verdict
 }
 
 // The same from a listed state, which every accepted record leads to another of.
-fn judge_listed(first: State, table: Table, records: &[u8]) -> Verdict
-    requires { ⌜ Holds (listed first) ⌝ }
-    ensures { λ r. ⌜ r ≡ ofRun (run table first (recordsIn (now (records .entry)))) ⌝ }
+fn judge_listed(begin: State, table: Table, records: &[u8]) -> Verdict
+    requires { ⌜ first (listed begin) ≡ 0 ⌝ }
+    ensures { λ r. ⌜ r ≡ ofRun (run table begin (recordsIn (now (records .entry)))) ⌝ }
 {
     // Field by field, which spares the loop the bytes between them.
     let mut state = State {
-        clock: first.clock,
-        gear_box: first.gear_box,
-        phase: first.phase,
-        phase_time: first.phase_time,
-        stage: first.stage,
-        stage_time: first.stage_time,
-        request_time: first.request_time,
-        failed_phase: first.failed_phase,
+        clock: begin.clock,
+        gear_box: begin.gear_box,
+        phase: begin.phase,
+        phase_time: begin.phase_time,
+        stage: begin.stage,
+        stage_time: begin.stage_time,
+        request_time: begin.request_time,
+        failed_phase: begin.failed_phase,
     };
     let count = records.len() / 4;
     let mut index: usize = 0;
@@ -163,7 +163,7 @@ fn judge_listed(first: State, table: Table, records: &[u8]) -> Verdict
 // What the record at a place means.
 fn record_at(records: &[u8], at: usize) -> Reading
     requires { ⌜ at + 3 < length (now records) ⌝ }
-    ensures { λ r. ⌜ r ≡ recordAt (now (records .entry)) at ⌝ }
+    ensures { λ r. ⌜ r ≡ recordOf (getD (now (records .entry)) at 0) (getD (now (records .entry)) (at + 1) 0) (getD (now (records .entry)) (at + 2) 0) (getD (now (records .entry)) (at + 3) 0) ⌝ }
 {
     stepfile::record(
         records[at],

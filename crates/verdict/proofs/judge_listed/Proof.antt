@@ -5,11 +5,12 @@ use Prim.Native.Nat.{_+_, _*_, _-_, _≤_}
 use mathlib.Core.Path.{_≡_, sym, ap, _∙_}
 use native.Mathlib.Omega.{arith}
 use lib.ListN.{length}
-use Rattle.checks.specs.Checks.{Holds}
+use Rattle.checks.proofs.Checks.{Holds, first→holds}
 use Rattle.shift.specs.Answers.{listed}
 use Rattle.shift.specs.Runs.{run}
 use Rattle.shift.proofs.ListedLaws.{judged-as-listed, accepted-listed}
-use Rattle.stepfile.specs.Records.{recordAt, recordsIn}
+use Rattle.stepfile.specs.Records.{recordsIn}
+use Rattle.stepfile.proofs.RecordLaws.{recordAt}
 use Rattle.verdict.specs.Verdicts.{ofRun}
 use Rattle.verdict.proofs.Judging.{left, all-left, accepted, refused, ended}
 use Rattle.verdict.proofs.judge_listed.Statement.{statement}
@@ -29,7 +30,7 @@ abbrev μ-loop : tie.MeasureT-loop
 loop-holds : tie.Need-loop-holds Inv-loop μ-loop
 loop-holds c =
     let a = c .before .args in
-    (omega arith, omega arith, omega arith, c .before .pre, sym (all-left (a .table) (a .records .now) (a .first)))
+    (omega arith, omega arith, omega arith, first→holds 0 (listed (a .begin)) tt (c .before .pre) .0, sym (all-left (a .table) (a .records .now) (a .begin)))
 
 returns : tie.Need-returns Inv-loop μ-loop
 returns c =

@@ -1,8 +1,6 @@
 -- `judge_records` meets its contract: the first state is listed, or it is not.
 -- Assumes nothing.
 use mathlib.Core.Path.{sym, _∙_}
-use Rattle.checks.proofs.Checks.{first→holds}
-use Rattle.shift.specs.Answers.{listed}
 use Rattle.verdict.proofs.judge_records.Statement.{statement}
 use Rattle.verdict.proofs.judge_records.Tie as tie
 
@@ -13,5 +11,5 @@ judge-records-spec =
     (λ _ _. tt)
     (λ c κs. (c .before .unlisted .ensures, c .if1 .taken))
     (λ c. c .judge-unlisted .ensures (c .before .before .before .before .args .table))
-    (λ c κs. first→holds 0 (listed (c .before .before .before .args .first)) tt (sym (c .before .unlisted .ensures) ∙ c .if1 .left) .0)
+    (λ c κs. sym (c .before .unlisted .ensures) ∙ c .if1 .left)
     (λ c. c .judge-listed .ensures))

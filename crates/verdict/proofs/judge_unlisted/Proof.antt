@@ -4,7 +4,7 @@ use mathlib.Core.Path.{sym, ap, _∙_}
 use native.Mathlib.Omega.{arith}
 use borrow.Author.Tests.{eq-eqb, ne-eqb}
 use Rattle.shift.proofs.ListedLaws.{kept-out}
-use Rattle.stepfile.specs.Records.{recordAt}
+use Rattle.stepfile.proofs.RecordLaws.{recordAt}
 use Rattle.verdict.specs.Verdicts.{ofRun}
 use Rattle.verdict.proofs.Judging.{all-left, at-once, ended}
 use Rattle.verdict.proofs.judge_unlisted.Statement.{statement}
