@@ -12,6 +12,7 @@ from pathlib import Path
 from corpus import KINDS, cases_in, packed, worked
 from coverage import Coverage, marks, possible_cells
 from generator import cases
+from search import NotFound
 
 ROOT = Path(__file__).resolve().parent.parent
 MISMATCHES = Path("target", "mismatch")
@@ -47,7 +48,7 @@ def show_mismatch(name, command, stream, wanted, got):
 
 def compare(seed, count, command):
     """Print what differs, the coverage and the sum; say whether all is well."""
-    print(f"seed {seed}")
+    print(f"seed {seed}", flush=True)
     made = list(cases(seed, count))
     streams = [packed(case) for case in made]
     try:
@@ -122,7 +123,12 @@ def main():
         answer(sys.stdin.buffer.read() if wishes.answer == "-" else Path(wishes.answer).read_bytes())
     else:
         seed = int.from_bytes(os.urandom(4), "little") if wishes.seed is None else wishes.seed
-        sys.exit(0 if compare(seed, wishes.cases, wishes.program) else 1)
+        try:
+            well = compare(seed, wishes.cases, wishes.program)
+        except NotFound as fault:
+            print(fault, "0 passed, 1 failed", sep="\n")
+            well = False
+        sys.exit(0 if well else 1)
 
 
 if __name__ == "__main__":

@@ -7,6 +7,7 @@ import file_cases
 import join_cases
 import step_cases
 import write_cases
+from search import NotFound
 
 MAKERS = step_cases, file_cases, join_cases, write_cases
 
@@ -30,9 +31,14 @@ def demanded(chance):
 
 
 def drawn(chance):
-    """Cases by chance, for ever."""
+    """Cases by chance, for ever; every draw has to make one."""
     while True:
-        yield from chance.choice(MAKERS).draw(chance)
+        maker = chance.choice(MAKERS)
+        made = 0
+        for made, case in enumerate(maker.draw(chance), 1):
+            yield case
+        if not made:
+            raise NotFound(f"not found: a case that {maker.__name__} draws")
 
 
 def cases(seed, count):

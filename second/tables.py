@@ -1,6 +1,7 @@
 """Limit tables by chance: admitted ones, ones at the edge of a rule, and any."""
 
 from rules import DEFAULT, ORDERS, Table, broken_rule, route_sums, slacks
+from search import NotFound, first_found
 
 LARGEST_ENTRY = 65_535
 
@@ -45,7 +46,10 @@ def admitted_table(chance, tight=False):
 
     table = Table(*(chance.randint(1, size) for _ in Table._fields))
     for rule, entry in LARGER_SIDES.items():
-        table = with_slack(table, rule, entry, slack())
+        wanted = slack()
+        table = with_slack(table, rule, entry, wanted)
+        if table is None:
+            raise NotFound(f"not found: an entry {entry} that gives rule {rule} the slack {wanted}")
     longest = max(route_sums(table))
     if not tight and chance.random() < 0.2:
         entry = chance.choice(ORDERS).phase_limit
@@ -56,11 +60,15 @@ def admitted_table(chance, tight=False):
 
 def edge_tables(chance, rule):
     """Three neighbours: a table that breaks the rule first and by one, one that just keeps it, and the next."""
-    while True:
+
+    def attempt():
         table, entry = admitted_table(chance), chance.choice(Table._fields)
         broken, kept, above = (with_slack(table, rule, entry, slack) for slack in (-1, 0, 1))
         if broken and kept and above and broken_rule(broken) == rule and not 0 < broken_rule(kept) <= rule:
             return broken, kept, above
+        return None
+
+    return first_found(f"a table that breaks rule {rule} first and by one, and a neighbour that keeps it", attempt)
 
 
 def broken_table(chance):

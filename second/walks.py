@@ -5,16 +5,23 @@ from rules import (
     LONGEST_TICK, PHASES, RAISE_ERROR, REQUESTS, START, TAKE, TICK, TO_NEUTRAL, WAITING,
     admitted_step, earliest_clock, latest_clocks,
 )
+from search import NotFound
+
+# No shift is begun on a walk that has so many codes.
+LONG_WALK = 1_000
 
 
-def ways(phase):
+def ways(phase, passed=()):
     """Every way from a phase to error or, through done, to rest, as the codes of its steps."""
     if phase == DONE:
         return [(FINISH,)]
+    passed += (phase,)
+    if phase in passed[:-1] or phase not in PHASES:
+        raise NotFound(f"not found: a way from phase {passed[0]} to done; the phases on it were {passed}")
     row = PHASES[phase]
-    found = [(DELIVER, DEVICE_GOOD, TAKE, *rest) for rest in ways(row.when_taken)]
+    found = [(DELIVER, DEVICE_GOOD, TAKE, *rest) for rest in ways(row.when_taken, passed)]
     if row.when_asked:
-        return found + [(DELIVER, ENGINE_WAITS, ASK_CLUTCH, *rest) for rest in ways(row.when_asked)]
+        return found + [(DELIVER, ENGINE_WAITS, ASK_CLUTCH, *rest) for rest in ways(row.when_asked, passed)]
     return found + [(DELIVER, DEVICE_FAILED, RAISE_ERROR)]
 
 
@@ -39,10 +46,15 @@ def timed(table, codes, pace):
     """A walk: the codes with ticks before them; the pace, such as min or max, picks each of the least and the most."""
     steps, state = [], START
     for code in codes:
-        pause = pace(*pause_before(table, state, code))
+        least, most = pause_before(table, state, code)
+        if least > most:
+            raise NotFound(f"not found: a pause before code {code} on {state} under {table}")
+        pause = pace(least, most)
         for step in [(TICK, pause), (code, 0)] if pause else [(code, 0)]:
             steps.append(step)
-            _, state = admitted_step(table, state, *step)
+            number, state = admitted_step(table, state, *step)
+            if number:
+                raise NotFound(f"not found: a walk of {codes}; {step} gives {number} on {state} under {table}")
     return steps
 
 
@@ -80,7 +92,7 @@ def edges(table, state):
 def any_walk(chance, table):
     """A walk through a few shifts, sometimes broken off, sometimes with a tick at its end that may be refused."""
     codes, request = (), FROM_NEUTRAL
-    while request:
+    while request and len(codes) < LONG_WALK:
         shift = chance.choice((FINISHED if chance.random() < 0.7 else SHIFTS)[request])
         codes += shift
         next_requests = (FROM_NEUTRAL,) if request == TO_NEUTRAL else (GEAR_TO_GEAR, TO_NEUTRAL)

@@ -1,0 +1,47 @@
+"""Wrong versions of this program: one place of its source changed, and the modules loaded anew beside those in use."""
+
+import importlib
+import sys
+from pathlib import Path
+from types import ModuleType
+from typing import NamedTuple
+
+HERE = Path(__file__).resolve().parent
+
+
+class Wrong(NamedTuple):
+    """A wrong version: what is wrong with it, and the text of a file that stands in the place of another."""
+
+    what: str
+    file: str
+    old: str
+    new: str
+
+
+class NoSuchPlace(Exception):
+    """The old text does not stand in the file exactly once."""
+
+
+def wrong_source(wrong):
+    """The file's source with the new text in the place of the old."""
+    source = (HERE / wrong.file).read_text()
+    places = source.count(wrong.old)
+    if places != 1:
+        raise NoSuchPlace(f"in {wrong.file} {wrong.old!r} stands {places} times")
+    return source.replace(wrong.old, wrong.new)
+
+
+def loaded(name, wrong=None):
+    """The module of this name, loaded anew with all that it imports from here; one of them is the wrong version's."""
+    ours = {path.stem for path in HERE.glob("*.py")}
+    in_use = {name: sys.modules.pop(name) for name in ours & sys.modules.keys()}
+    try:
+        if wrong:
+            module = ModuleType(Path(wrong.file).stem)
+            sys.modules[module.__name__] = module
+            exec(compile(wrong_source(wrong), wrong.file, "exec"), module.__dict__)
+        return importlib.import_module(name)
+    finally:
+        for name in ours & sys.modules.keys():
+            del sys.modules[name]
+        sys.modules.update(in_use)
