@@ -146,6 +146,15 @@ def every_line(chance):
             yield line_case(chance, file, spare)
 
 
+def lines_along_walks(chance):
+    """Lines at every place of a walk for each request, and of a tick there that passes the limits, if there are any."""
+    for request, shifts in SHIFTS.items():
+        steps = timed(DEFAULT, lead(chance, request) + chance.choice(shifts), max)
+        for end in range(len(steps) + 1):
+            for more in ([], [(TICK, LONGEST_TICK)]):
+                yield line_case(chance, file_with(chance, DEFAULT, steps[:end], more), 0)
+
+
 def largest(chance):
     """The largest good files, those with their last record spoilt, and larger ones."""
     shift = timed(DEFAULT, FINISHED[FROM_NEUTRAL][0], mixed(chance))
@@ -169,6 +178,7 @@ def demanded(chance):
     yield from faulty_walks(chance)
     yield from damaged_files(chance)
     yield from every_line(chance)
+    yield from lines_along_walks(chance)
     yield from largest(chance)
 
 

@@ -36,7 +36,7 @@ def bad_amount(chance, code, largest=LAST_CLOCK):
 
 def bad_records(chance, code):
     """Records of a listed code: with a wrong middle byte, with a wrong amount, and with both."""
-    middle, amount = chance.randint(1, 255), bad_amount(chance, code, LONGEST_TICK)
+    middle, amount = chance.choice((1, 255, chance.randint(1, 255))), bad_amount(chance, code, LONGEST_TICK)
     return [
         RECORD.pack(code, middle, good_amount(chance, code)),
         RECORD.pack(code, 0, amount),

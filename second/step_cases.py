@@ -3,15 +3,17 @@
 from itertools import product
 
 from corpus import case_of
+from coverage import step_numbers
 from records import (
     EXTREME_AMOUNTS, LISTED, any_record, bad_amount, bad_records, good_amount, packed_steps, tick_amount,
     unlisted_code,
 )
 from rules import (
-    ALLOWED, ASK_CLUTCH, AT_REST, BOXES, DEFAULT, ENGINE_PHASES, ERROR, GOOD, LAST_CLOCK, LONGEST_TICK,
-    PAST_PHASE_LIMIT, PAST_STAGE_LIMIT, PHASES, REQUESTS, STAGES, START, TAKE, TICK, TOO_LATE, WAITING, State, Table,
-    earliest_clock, latest_clocks,
+    ALLOWED, ASK_CLUTCH, AT_REST, BOXES, DEFAULT, DONE, ENGINE_PHASES, ERROR, GOOD, LAST_CLOCK, LONGEST_TICK,
+    NOT_ALLOWED, PAST_PHASE_LIMIT, PAST_STAGE_LIMIT, PHASES, REQUESTS, STAGES, START, TAKE, TICK, TOO_LATE, WAITING,
+    State, Table, earliest_clock, forbidden, latest_clocks,
 )
+from search import first_found
 from tables import LARGEST_ENTRY, admitted_table, any_table, broken_table, edge_tables, good_table
 
 BESIDE = -1, 0, 1
@@ -72,9 +74,9 @@ def limits(table, phase, stage, code):
     return dict(latest_clocks(table, START._replace(phase=phase, stage=stage), code))
 
 
-def clock_from(chance, least):
-    """A clock that is no smaller than the least: that one, the last or any."""
-    return chance.choice((least, LAST_CLOCK, chance.randint(least, LAST_CLOCK)))
+def clocks_from(chance, least):
+    """Clocks that are no smaller than the least: that one, the last and any."""
+    return least, LAST_CLOCK, chance.randint(least, LAST_CLOCK)
 
 
 def aimed_tick(chance, table, phase, stage, past_stage, past_phase):
@@ -82,7 +84,7 @@ def aimed_tick(chance, table, phase, stage, past_stage, past_phase):
     found = limits(table, phase, stage, TICK)
     stage_limit, phase_limit = found.get(PAST_STAGE_LIMIT, 0), found[PAST_PHASE_LIMIT]
     amount = tick_amount(chance)
-    clock = clock_from(chance, max(amount, past_stage + stage_limit, past_phase + phase_limit))
+    clock = chance.choice(clocks_from(chance, max(amount, past_stage + stage_limit, past_phase + phase_limit)))
     state = free_state(
         chance,
         clock=clock - amount,
@@ -138,6 +140,75 @@ def every_unlisted_field(chance):
             yield from both(good_table(chance), state, code, good_amount(chance, code))
 
 
+def neither_listed(chance):
+    """Codes that are none on states that are not listed."""
+    for (field, least), code in product(LEAST_UNLISTED.items(), (0, 13, 255)):
+        yield from both(good_table(chance), free_state(chance, **{field: least}), code, 0)
+
+
+def accepted_step(chance, table, code, phase, box):
+    """A state with this phase and box, whose times differ, and an amount: the step is accepted and can change all."""
+
+    def attempt():
+        state = allowing(chance, code, phase=phase, box=box, failed_phase=chance.randint(1, 255))
+        amount = good_amount(chance, code)
+        times = {0, state.clock, state.phase_time, state.stage_time, state.request_time}
+        return (state, amount) if len(times) == 5 and not forbidden(table, state, code, amount) else None
+
+    return first_found(f"a state with phase {phase} and box {box} on which code {code} is accepted", attempt)
+
+
+def every_effect(chance):
+    """Every listed code accepted in every phase that allows it, with the box on either side that does."""
+    for code in LISTED:
+        phases, _ = ALLOWED[code]
+        for phase, box in product(sorted(phases), (REQUESTS[code].box,) if code in REQUESTS else BOXES):
+            table = good_table(chance)
+            state, amount = accepted_step(chance, table, code, phase, box)
+            yield chance.choice(list(both(table, state, code, amount)))
+
+
+def refused_step(chance, table, code, number, any_amount):
+    """A state and an amount for which the step would be refused with this number if its table and amount were good."""
+
+    def attempt():
+        state = allowing(chance, code)
+        if number == TOO_LATE:
+            state = state._replace(phase=chance.choice(sorted(ENGINE_PHASES)))
+        if number == NOT_ALLOWED:
+            state = chance.choice((free_state(chance), unlisted(chance, state)))
+        amount = any_amount(chance, code)
+        return (state, amount) if forbidden(table, state, code, amount) == number else None
+
+    return first_found(f"a state and an amount for which code {code} is refused with {number}", attempt)
+
+
+def not_allowing(state, code):
+    """The state with a stage, a box or, for a request, a phase, one at a time, that doesn't allow the step."""
+    yield state._replace(stage=LEAST_UNLISTED["stage"])
+    yield state._replace(box=LEAST_UNLISTED["box"])
+    _, stages = ALLOWED[code]
+    yield from (state._replace(stage=stage) for stage in STAGES if stage not in stages)
+    if code in REQUESTS:
+        yield from (state._replace(phase=phase) for phase in (*PHASES, DONE, ERROR, LEAST_UNLISTED["phase"]))
+
+
+def two_refusals(chance):
+    """Every number from 7 on that a listed code can give, where 4, 6 or 7 comes before it."""
+    for code, number in [(code, number) for code in LISTED for number in sorted(step_numbers(code)) if number >= 7]:
+        broken, good = broken_table(chance), good_table(chance)
+        state, amount = refused_step(chance, broken, code, number, good_amount)
+        yield from both(broken, state, code, amount)
+        state, amount = refused_step(chance, good, code, number, bad_amount)
+        yield case_of("step", good, state, code, amount)
+        state, amount = refused_step(chance, good, code, number, good_amount)
+        for four in bad_records(chance, code):
+            yield case_of("advance", good, state, four)
+        if number > NOT_ALLOWED:
+            for wrong in not_allowing(state, code):
+                yield case_of("step", good, wrong, code, amount)
+
+
 def ticks_beside_limits(chance):
     """Ticks to one below, to and to one past the limits of every phase and stage, in every pairing."""
     for phase, stage, past_phase in product(PHASES, STAGES, BESIDE):
@@ -156,15 +227,15 @@ def ticks_beside_the_last_clock(chance):
 
 
 def engines_beside_limits(chance):
-    """Taking one before, at and one past EX, and asking for the clutch likewise beside DE."""
-    for phase, past, _ in product(sorted(ENGINE_PHASES), BESIDE, range(4)):
+    """Taking one before, at and one past EX, and asking for the clutch beside DE, up to the last clock."""
+    for phase, past in product(sorted(ENGINE_PHASES), BESIDE):
         table = good_table(chance)
         expiry = limits(table, phase, GOOD, TAKE)[TOO_LATE]
         earliest = earliest_clock(table, START._replace(phase=phase), ASK_CLUTCH)
         for code, stage, limit in ((TAKE, GOOD, expiry), (ASK_CLUTCH, WAITING, earliest)):
-            clock = clock_from(chance, past + limit)
-            state = free_state(chance, clock=clock, phase=phase, stage=stage, phase_time=clock - past - limit)
-            yield from both(table, state, code, 0)
+            for clock in clocks_from(chance, past + limit):
+                state = free_state(chance, clock=clock, phase=phase, stage=stage, phase_time=clock - past - limit)
+                yield from both(table, state, code, 0)
 
 
 def refusals_in_order(chance):
@@ -189,6 +260,9 @@ def demanded(chance):
     yield from every_box(chance)
     yield from every_amount(chance)
     yield from every_unlisted_field(chance)
+    yield from neither_listed(chance)
+    yield from every_effect(chance)
+    yield from two_refusals(chance)
     yield from ticks_beside_limits(chance)
     yield from ticks_beside_the_last_clock(chance)
     yield from engines_beside_limits(chance)

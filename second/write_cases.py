@@ -6,6 +6,7 @@ from buffers import NO_BUFFER, buffer_for
 from corpus import case_of
 from files import MOST_RECORDS, RECORD, file_of
 from records import EXTREME_AMOUNTS, LISTED, bad_amount, good_amount, unlisted_code
+from rules import DEFAULT
 from tables import any_table, broken_table, edge_tables, good_table
 
 NONE, A_TABLE = 0, 1
@@ -56,8 +57,10 @@ def every_fault(chance):
         yield written(chance, A_TABLE, good_table(chance), *with_fault(chance, *faulty, chance.randrange(len(codes))))
 
 
-def rules_at_their_edge(chance):
-    """Tables at the edge of each rule."""
+def every_table(chance):
+    """The default table, wished for or not, and tables at the edge of each rule."""
+    for wish in (NONE, A_TABLE):
+        yield written(chance, wish, DEFAULT, *lists(chance, 3))
     for rule in range(1, 16):
         for table in edge_tables(chance, rule):
             yield written(chance, A_TABLE, table, *lists(chance, 3))
@@ -80,7 +83,7 @@ def demanded(chance):
     """The cases that the coverage demands of the writer."""
     yield from refusals_in_order(chance)
     yield from every_fault(chance)
-    yield from rules_at_their_edge(chance)
+    yield from every_table(chance)
     yield from longest(chance)
 
 
