@@ -3,27 +3,21 @@
 
 import argparse
 import os
-import random
-import shlex
-import subprocess
 import sys
 from pathlib import Path
 
-from corpus import KINDS, cases_in, packed, worked
-from coverage import Coverage, marks, possible_cells
+from corpus import cases_in, packed, worked
+from coverage import Coverage
 from generator import cases
+from program import PROVED, ROOT, printed
 from search import NotFound
+from stored import store
 
-ROOT = Path(__file__).resolve().parent.parent
 MISMATCHES = Path("target", "mismatch")
 MOST_SHOWN = 20
 LONGEST_SHOWN = 300
 
 CASES = 12_000
-
-STORED_SEED = 1
-LONGEST_STORED = 400
-MORE_OF_A_KIND = 30
 
 
 def excerpt(line, place):
@@ -51,18 +45,10 @@ def compare(seed, count, command):
     print(f"seed {seed}", flush=True)
     made = list(cases(seed, count))
     streams = [packed(case) for case in made]
-    try:
-        run = subprocess.run(shlex.split(command), input=b"".join(streams), stdout=subprocess.PIPE, cwd=ROOT)
-    except OSError as error:
-        print(f"{command} can't be run: {error}")
-        print("0 passed, 1 failed")
+    lines, faults = printed(command, streams)
+    if not lines:
+        print(*faults, "0 passed, 1 failed", sep="\n")
         return False
-    *lines, _ = run.stdout.decode(errors="replace").split("\n")
-    faults = []
-    if run.returncode:
-        faults.append(f"{command} ended with status {run.returncode}")
-    if len(lines) != len(made):
-        faults.append(f"{command} printed {len(lines)} lines for {len(made)} cases")
     lines += ["(no line)"] * (len(made) - len(lines))
 
     coverage, differing = Coverage(), 0
@@ -85,22 +71,6 @@ def compare(seed, count, command):
     return not failed
 
 
-def store(directory):
-    """Write a corpus of small cases, which together cover what small cases can, with some more of each kind."""
-    chance, uncovered = random.Random(STORED_SEED), set(possible_cells())
-    chosen, others = [], {kind: [] for kind in KINDS}
-    for case in cases(STORED_SEED, CASES):
-        if len(packed(case)) <= LONGEST_STORED:
-            found = marks(worked(case))
-            (others[case.kind] if uncovered.isdisjoint(found) else chosen).append(case)
-            uncovered -= found
-    for rest in others.values():
-        chosen += chance.sample(rest, min(len(rest), MORE_OF_A_KIND))
-    directory.mkdir(parents=True, exist_ok=True)
-    (directory / "stdin").write_bytes(b"".join(map(packed, chosen)))
-    (directory / "stdout").write_text("".join(f"{worked(case).line()}\n" for case in chosen))
-
-
 def answer(stream):
     """Print the answers to the cases in a stream."""
     for case in cases_in(stream):
@@ -113,7 +83,7 @@ def main():
     add = parser.add_argument
     add("--seed", type=int, help="the seed of the cases; without it, any")
     add("--cases", type=int, default=CASES, help=f"make at least so many cases ({CASES})")
-    add("--program", default="bin/vectors", help="compare with this command, run in the repository's root")
+    add("--program", default=PROVED, help="compare with this command, run in the repository's root")
     add("--store", type=Path, metavar="DIR", help="write a small corpus to DIR/stdin, and its answers to DIR/stdout")
     add("--answer", metavar="FILE", help="print this program's answers to a file of cases, or to standard input for -")
     wishes = parser.parse_args()

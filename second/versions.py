@@ -1,10 +1,15 @@
 """Wrong versions of this program: one place of its source changed, and the modules loaded anew beside those in use."""
 
 import importlib
+import signal
 import sys
+from contextlib import contextmanager
 from pathlib import Path
 from types import ModuleType
 from typing import NamedTuple
+
+from wrong_files import WRONG_FILES
+from wrong_rules import WRONG_RULES
 
 HERE = Path(__file__).resolve().parent
 
@@ -16,6 +21,13 @@ class Wrong(NamedTuple):
     file: str
     old: str
     new: str
+
+
+WRONG_VERSIONS = [
+    *(Wrong(what, "rules.py", old, new) for what, old, new in WRONG_RULES),
+    *(Wrong(what, "files.py", old, new) for what, old, new in WRONG_FILES),
+    Wrong("the wish for none crossed", "corpus.py", "table if wish else None", "None if wish else table"),
+]
 
 
 class NoSuchPlace(Exception):
@@ -45,3 +57,35 @@ def loaded(name, wrong=None):
         for name in ours & sys.modules.keys():
             del sys.modules[name]
         sys.modules.update(in_use)
+
+
+def cases_needed(worked, answered):
+    """How many of the cases it takes until a line is another than the right one, or None. An error is no line."""
+    for needed, (case, right) in enumerate(answered, 1):
+        try:
+            line = worked(case).line()
+        except Exception:
+            continue
+        if line != right:
+            return needed
+    return None
+
+
+class TooLong(BaseException):
+    """The time is over."""
+
+
+@contextmanager
+def at_most(seconds):
+    """Raise TooLong in what is run so, once it has computed for so many seconds."""
+
+    def end(*_):
+        raise TooLong(f"no end after {seconds} s")
+
+    before = signal.signal(signal.SIGVTALRM, end)
+    signal.setitimer(signal.ITIMER_VIRTUAL, seconds)
+    try:
+        yield
+    finally:
+        signal.setitimer(signal.ITIMER_VIRTUAL, 0)
+        signal.signal(signal.SIGVTALRM, before)

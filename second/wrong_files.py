@@ -1,0 +1,209 @@
+"""Wrong versions of files.py, in the order of document 01: what is wrong, a text of it, and the text in its place."""
+
+# The reader: the header's fields and bounds, the table, the records, and the order 1, 2, 3, 4.
+
+SHORT, HEADER = "return TOO_SHORT\n", "return WRONG_HEADER\n"
+TABLE_OFFSET, ENTRIES = "table_offset != HEADER.size or ", "k not in (0, 18) or "
+RECORD_OFFSET, COUNT = "offset != record_offset(k) or ", "n > MOST_RECORDS:\n        return WRONG_HEADER\n"
+LENGTH = "len(file) == offset + RECORD.size * n"
+HAS_TABLE, SAYS_18 = "len(file) >= record_offset(18)", "header_of(file).k == 18"
+GOOD = "if not number:"
+
+READER = [
+    ("1 for 12 bytes", "len(file) < HEADER.size", "len(file) <= HEADER.size"),
+    ("2 for 11 bytes", SHORT, "return TOO_SHORT if len(file) < 11 else WRONG_HEADER\n"),
+    ("2 for no bytes", SHORT, "return TOO_SHORT if file else WRONG_HEADER\n"),
+    ("3 before 1", SHORT, "return WRONG_LENGTH\n"),
+    ("3 before 2", HEADER, f"return WRONG_HEADER if {LENGTH} else WRONG_LENGTH\n"),
+    ("3 before 2 for too many records", COUNT, f"n > MOST_RECORDS and {LENGTH}:\n        return WRONG_HEADER\n"),
+    ("3 before 2 above 65,536 bytes", SHORT, f"{SHORT}    if len(file) > 65_536:\n        return WRONG_LENGTH\n"),
+    ("4 before 3", GOOD, "if not number or number == WRONG_LENGTH and broken_rule(table):"),
+    ("4 before 2", GOOD, "if not number or number == WRONG_HEADER and broken_rule(table):"),
+    ("4 without its rule in a file", "return number, rule, table, b", "return number, 0, table, b"),
+    ("4 is never given", GOOD, "if False:"),
+    ("table offset 11", TABLE_OFFSET, "table_offset not in (11, 12) or "),
+    ("table offset 13", TABLE_OFFSET, "table_offset not in (12, 13) or "),
+    ("table offset of 8 bits", TABLE_OFFSET, "table_offset % 2**8 != HEADER.size or "),
+    ("any table offset", TABLE_OFFSET, ""),
+    ("1 entry", ENTRIES, "k not in (0, 1, 18) or "),
+    ("17 entries", ENTRIES, "k not in (0, 17, 18) or "),
+    ("19 entries", ENTRIES, "k not in (0, 18, 19) or "),
+    ("any number of entries", ENTRIES, ""),
+    ("0 entries are refused", ENTRIES, "k != 18 or "),
+    ("18 entries are refused", ENTRIES, "k != 0 or "),
+    ("record offset one less", RECORD_OFFSET, "offset not in (record_offset(k) - 1, record_offset(k)) or "),
+    ("record offset one more", RECORD_OFFSET, "offset not in (record_offset(k), record_offset(k) + 1) or "),
+    ("record offset of 16 bits", RECORD_OFFSET, "offset % 2**16 != record_offset(k) or "),
+    ("record offset 12 with a table too", RECORD_OFFSET, "offset not in (12, record_offset(k)) or "),
+    ("any record offset", RECORD_OFFSET, ""),
+    ("16,372 records are too many to read", COUNT, COUNT.replace(">", ">=")),
+    ("16,373 records are not too many to read", COUNT, COUNT.replace(":", " + 1:")),
+    ("record count of 16 bits", COUNT, COUNT.replace("n >", "n % 2**16 >")),
+    ("any number of records", COUNT, COUNT.replace("n > MOST_RECORDS", "False")),
+    ("16,371 is the most to read and write", "MOST_RECORDS = 16_372", "MOST_RECORDS = 16_371"),
+    ("16,373 is the most to read and write", "MOST_RECORDS = 16_372", "MOST_RECORDS = 16_373"),
+    ("a record more than the count", LENGTH, f"{LENGTH} or len(file) == offset + RECORD.size * (n + 1)"),
+    ("a record less than the count", LENGTH, f"{LENGTH} or len(file) == offset + RECORD.size * (n - 1)"),
+    ("a header alone is a file", LENGTH, f"{LENGTH} or len(file) == HEADER.size"),
+    ("the header is big-endian", '"<HHII"', '">HHII"'),
+    ("the amount is big-endian", '"<BBH"', '">BBH"'),
+    ("code and middle byte crossed", "code, middle, amount = RECORD", "middle, code, amount = RECORD"),
+    ("no table in 48 bytes", HAS_TABLE, "len(file) > record_offset(18)"),
+    ("a table for any number but 0", SAYS_18, "header_of(file).k != 0"),
+    ("a table for the number 0", SAYS_18, "header_of(file).k in (0, 18)"),
+    ("never a table", SAYS_18, "header_of(file).k == 19"),
+    ("a table one entry early", "unpack_from(file, HEADER.size)", "unpack_from(file, HEADER.size - 2)"),
+    ("records from byte 12 with a table too", "file[header_of(file).record_offset:]", "file[HEADER.size:]"),
+    ("records of a file refused with 4", 'b"" if number else', 'b"" if number and not rule else'),
+]
+
+# The judge and the running judge.
+
+JUDGED = "admitted_step(table, state, *record(four))"
+PLACES = "range(0, len(records), RECORD.size)"
+VERDICT, ADVANCED = "return number, rule, accepted, state", "return step(table, state, *record(four))"
+
+JUDGE = [
+    ("the refused record counts as accepted", "accepted += number == 0", "accepted += 1"),
+    ("the header's count for that of records accepted", VERDICT,
+     "return number, rule, len(records) // RECORD.size, state"),
+    ("the start state with every refusal", VERDICT, "return number, rule, accepted, START if number else state"),
+    ("the first record is left out", PLACES, "range(RECORD.size, len(records), RECORD.size)"),
+    ("the last record is left out", PLACES, "range(0, len(records) - RECORD.size, RECORD.size)"),
+    ("judging goes on after a refusal", "        if number:\n            return\n", ""),
+    ("judging by the default table", JUDGED, "admitted_step(DEFAULT, state, *record(four))"),
+    ("judging from the box in gear", "    state = START\n", "    state = START._replace(box=1)\n"),
+    ("only the first record is judged", JUDGED, f"{JUDGED} if state == START else (0, state)"),
+    ("the running judge leaves the middle byte out", ADVANCED, "return step(table, state, *record(four)[:2])"),
+    ("the running judge admits any table", ADVANCED, f"number, state = {JUDGED}\n    return number, 0, state"),
+]
+
+# The line, and a text laid into a buffer.
+
+UNREAD, FEED = "number <= NOT_ADMITTED", "{state.box}\\n"
+READ, JUDGE_FILE = "number, rule, table, records = read(file)", "accepted, state = judge(file)"
+LAID, NO_ROOM = "return 0, len(text), text + buffer[len(text):]", "return NO_ROOM, 0, buffer"
+DOES_NOT_FIT, LAID_LINE = "if len(text) > len(buffer):", "return laid(line(file), buffer)"
+
+LINE = [
+    ("refused for 4", UNREAD, "number < NOT_ADMITTED"),
+    ("unread for 5", UNREAD, "number <= 5"),
+    ("refused for 1", UNREAD, "1 < number <= NOT_ADMITTED"),
+    ("refused and unread crossed", UNREAD, "number > NOT_ADMITTED"),
+    ("accepted with a capital", '"accepted"', '"Accepted"'),
+    ("reason before records accepted", "{accepted} {number} {", "{number} {accepted} {"),
+    ("clock before reason", "{number} {state.clock}", "{state.clock} {number}"),
+    ("phase before clock", "{state.clock} {state.phase}", "{state.phase} {state.clock}"),
+    ("box before phase", "{state.phase} {state.box}", "{state.box} {state.phase}"),
+    ("failed phase for phase", "{state.phase}", "{state.failed_phase}"),
+    ("records accepted in hexadecimal", "{accepted}", "{accepted:x}"),
+    ("reason in hexadecimal", "{number}", "{number:x}"),
+    ("clock in hexadecimal", "{state.clock}", "{state.clock:x}"),
+    ("phase in hexadecimal", "{state.phase}", "{state.phase:x}"),
+    ("reason in two digits", "{number}", "{number:02}"),
+    ("records accepted of 8 bits", "{accepted}", "{accepted % 2**8}"),
+    ("clock of 16 bits", "{state.clock}", "{state.clock % 2**16}"),
+    ("no line feed", FEED, "{state.box}"),
+    ("two line feeds", FEED, f"{FEED}\\n"),
+    ("a space before the line feed", FEED, "{state.box} \\n"),
+    ("two spaces after the word", "{word} ", "{word}  "),
+    ("an exact fit is refused", DOES_NOT_FIT, "if len(text) >= len(buffer):"),
+    ("one byte short is laid", DOES_NOT_FIT, "if len(text) > len(buffer) + 1:"),
+    ("an exact fit is refused to lines", LAID_LINE,
+     "number, length, after = laid(line(file), buffer)\n"
+     "    return (NO_ROOM, 0, buffer) if length == len(buffer) else (number, length, after)"),
+    ("14 for 15 to lines and writers", NO_ROOM, "return BEYOND_HELD, 0, buffer"),
+    ("15 with a length", NO_ROOM, "return NO_ROOM, len(text), buffer"),
+    ("15 with the beginning laid", NO_ROOM, "return NO_ROOM, 0, text[:len(buffer)]"),
+    ("bytes behind the text are made 0", LAID, "return 0, len(text), text + bytes(len(buffer) - len(text))"),
+    ("a text laid at the buffer's end", LAID, "return 0, len(text), buffer[len(text):] + text"),
+    ("the length one more", LAID, "return 0, len(text) + 1, text + buffer[len(text):]"),
+    ("an input is cut at 65,536 bytes", READ, "number, rule, table, records = read(file[:65_536])"),
+    ("an input is cut at 65,535 bytes", READ, "number, rule, table, records = read(file[:65_535])"),
+    ("an input is cut at 65,536 bytes for the line", JUDGE_FILE, "accepted, state = judge(file[:65_536])"),
+    ("an input is cut at 65,535 bytes for the line", JUDGE_FILE, "accepted, state = judge(file[:65_535])"),
+]
+
+# The writer: its bounds, what it writes, and the order 3, 2, 4, first record with 5 or 6, 15.
+
+UNEQUAL, MANY, BROKEN = "if len(codes) != len(amounts)", "if len(codes) > MOST_RECORDS", "    if rule:\n"
+FAULTY, BROKEN_TABLE = "any(map(unreadable, codes, amounts))", "(table and broken_rule(table))"
+FULL = "(NO_ROOM, 0, 0, 0, buffer) if len(file_of(table, bytes(RECORD.size * len(codes)))) > len(buffer) else"
+ANSWER_3, ANSWER_2 = "WRONG_LENGTH, 0, 0, 0, buffer", "WRONG_HEADER, 0, 0, 0, buffer"
+ANSWER_4, ANSWER_5_6 = "NOT_ADMITTED, rule, 0, 0, buffer", "number, 0, index, 0, buffer"
+TABLE_RULE, NO_ENTRIES = "rule = 0 if table is None else broken_rule(table)", 'b"" if table is None else'
+
+WRITER = [
+    ("fewer amounts than codes", UNEQUAL, "if len(codes) < len(amounts)"),
+    ("fewer codes than amounts", UNEQUAL, "if len(codes) > len(amounts)"),
+    ("16,372 records are too many to write", MANY, "if len(codes) >= MOST_RECORDS"),
+    ("16,373 records are not too many to write", MANY, "if len(codes) > MOST_RECORDS + 1"),
+    ("2 before 3 of the writer", UNEQUAL, f"{UNEQUAL} and len(codes) <= MOST_RECORDS"),
+    ("4 before 3 of the writer", UNEQUAL, f"{UNEQUAL} and not {BROKEN_TABLE}"),
+    ("4 before 2 of the writer", MANY, f"{MANY} and not {BROKEN_TABLE}"),
+    ("5 and 6 before 3", UNEQUAL, f"{UNEQUAL} and not {FAULTY}"),
+    ("5 and 6 before 2", MANY, f"{MANY} and not {FAULTY}"),
+    ("5 and 6 before 4 of the writer", BROKEN, f"    if rule and not {FAULTY}:\n"),
+    ("15 before 3", ANSWER_3, f"{FULL} ({ANSWER_3})"),
+    ("15 before 2", ANSWER_2, f"{FULL} ({ANSWER_2})"),
+    ("15 before 4", ANSWER_4, f"{FULL} ({ANSWER_4})"),
+    ("15 before 5 and 6", ANSWER_5_6, f"{FULL} ({ANSWER_5_6})"),
+    ("4 without its rule of the writer", ANSWER_4, "NOT_ADMITTED, 0, 0, 0, buffer"),
+    ("the writer admits any table", TABLE_RULE, "rule = 0"),
+    ("the writer admits no table", TABLE_RULE, "rule = 0 if table is None else 1"),
+    ("the index one more", ANSWER_5_6, "number, 0, index + 1, 0, buffer"),
+    ("the index is always 0", ANSWER_5_6, "number, 0, 0, 0, buffer"),
+    ("the last record with 5 or 6", "in enumerate(zip(codes, amounts)):",
+     "in reversed(list(enumerate(zip(codes, amounts)))):"),
+    ("amounts are cut to 16 bits", TABLE_RULE, f"amounts = [amount % 2**16 for amount in amounts]\n    {TABLE_RULE}"),
+    ("a middle byte of 1 is written", "RECORD.pack(code, 0, amount)", "RECORD.pack(code, 1, amount)"),
+    ("the wish for none writes the default table", f"{NO_ENTRIES} ENTRIES.pack(*table)",
+     "ENTRIES.pack(*(table or DEFAULT))"),
+    ("the default table is not written", NO_ENTRIES, 'b"" if table in (None, DEFAULT) else'),
+    ("no table is written", NO_ENTRIES, 'b"" if True else'),
+    ("k is written in bytes", "k = len(entries) // 2", "k = len(entries)"),
+    ("n is written in bytes", "len(records) // RECORD.size) +", "len(records)) +"),
+    ("n is written one more", "len(records) // RECORD.size) +", "len(records) // RECORD.size + 1) +"),
+    ("records are written before the table", "+ entries + records", "+ records + entries"),
+    ("the length without the header", "return number, 0, 0, length, buffer",
+     "return number, 0, 0, max(0, length - HEADER.size), buffer"),
+]
+
+# Joining, in the order 15 for held, 14, 15, 16. Of 14 and 16 only one can hold.
+
+HELD, GAP, ROOM = "if held > len(buffer):", "if offset > held:", "if end > len(buffer):"
+OVERLAP, DIFFERS = "if buffer[offset:offset + len(overlap)] != overlap:", "return OVERLAP_DIFFERS, held, buffer"
+JOINED, REST = "return 0, held + len(rest),", "rest + buffer[held + len(rest):]"
+
+JOIN = [
+    ("held at the buffer's end is refused", HELD, "if held >= len(buffer):"),
+    ("held one past the buffer's end", HELD, "if held > len(buffer) + 1:"),
+    ("any held", HELD, "if False:"),
+    ("a part that begins at held is refused", GAP, "if offset >= held:"),
+    ("a part that begins one past held", GAP, "if offset > held + 1:"),
+    ("a part that ends with the buffer is refused", ROOM, "if end >= len(buffer):"),
+    ("a part that ends one past the buffer", ROOM, "if end > len(buffer) + 1:"),
+    ("14 before 15 for held", HELD, "if held > len(buffer) and offset <= held:"),
+    ("16 before 15 for held", HELD, "if held > len(buffer) and buffer[offset:end] == part[:len(buffer[offset:end])]:"),
+    ("15 before 14", GAP, "if offset > held and end <= len(buffer):"),
+    ("16 before 15", ROOM, "if end > len(buffer) and buffer[offset:held] == part[:held - offset]:"),
+    ("14 for 15 of the part", f"{ROOM}\n        return NO_ROOM", f"{ROOM}\n        return BEYOND_HELD"),
+    ("15 for 14", "return BEYOND_HELD, held", "return NO_ROOM, held"),
+    ("the overlap is not compared", OVERLAP, "if False:"),
+    ("the overlap's first byte is not compared", OVERLAP, "if buffer[offset:held][1:len(overlap)] != overlap[1:]:"),
+    ("the overlap's last byte is not compared", OVERLAP,
+     "if buffer[offset:offset + len(overlap)][:-1] != overlap[:-1]:"),
+    ("the part is compared beyond held", OVERLAP, "if buffer[offset:end] != part:"),
+    ("a part appended as if its offset were held", "part[:held - offset], part[held - offset:]", 'b"", part'),
+    ("held falls back to the part's end", JOINED, "return 0, end,"),
+    ("held grows by the part's length", JOINED, "return 0, held + len(part),"),
+    ("held stays", JOINED, "return 0, held,"),
+    ("bytes beyond the new count are made 0", REST, "rest + bytes(len(buffer) - held - len(rest))"),
+    ("the rest is not appended", REST, "buffer[held:]"),
+    ("14 moves held", "return BEYOND_HELD, held", "return BEYOND_HELD, offset"),
+    ("15 moves held", f"{ROOM}\n        return NO_ROOM, held", f"{ROOM}\n        return NO_ROOM, len(buffer)"),
+    ("16 moves held", DIFFERS, "return OVERLAP_DIFFERS, offset, buffer"),
+    ("16 changes the buffer", DIFFERS, "return OVERLAP_DIFFERS, held, buffer[:offset] + part + buffer[end:]"),
+]
+
+WRONG_FILES = [*READER, *JUDGE, *LINE, *WRITER, *JOIN]

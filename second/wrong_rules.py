@@ -1,0 +1,373 @@
+"""Wrong versions of rules.py, in the order of document 01: what is wrong, a text of it, and the text in its place."""
+
+from rules import DEFAULT
+
+
+def words(name):
+    """A name of rules.py in document 01's words."""
+    return name.lower().replace("_", " ")
+
+
+# The limit table and its admission.
+
+SLACKS = {
+    1: "min(t) - 1,",
+    2: "t.Sync_EX - (both_ways + t.Engine_Sync_DL),",
+    3: "t.Zero_EX - (both_ways + t.Engine_Zero_DL),",
+    4: "t.OpenClutch_DL - (both_ways + t.Clutch_Open_DL) - 1,",
+    5: "t.CloseClutch_DL - (both_ways + t.Clutch_Close_DL) - 1,",
+    6: "t.SetGear_DL - (both_ways + t.Gear_Set_DL) - 1,",
+    7: "t.Release_DL - (both_ways + t.Gear_Release_DL) - 1,",
+    8: "t.Sync_DE - t.Sync_EX - 1,",
+    9: "t.Zero_DE - t.Zero_EX - 1,",
+    10: "t.Sync_DL - t.Sync_DE,",
+    11: "t.Zero_DL - t.Zero_DE,",
+}
+ROUTES = {12: "f", 13: "n", 14: "g1", 15: "g2"}
+
+
+def off_rules():
+    """Each rule dropped, one tighter and one looser; rule 1 one looser is rule 1 dropped."""
+    for rule, slack in SLACKS.items():
+        yield f"rule {rule} dropped", slack, "0,"
+        yield f"rule {rule} one tighter", slack, f"-1 + {slack}"
+        if rule > 1:
+            yield f"rule {rule} one looser", slack, f"1 + {slack}"
+    for rule, route in ROUTES.items():
+        for how, wrong in ("dropped", "0"), ("one tighter", f"{route} + 1"), ("one looser", f"{route} - 1"):
+            sums = ", ".join(wrong if other == route else other for other in ROUTES.values())
+            yield f"rule {rule} {how}", "return f, n, g1, g2", f"return {sums}"
+
+
+def off_defaults():
+    """Each entry one more by default."""
+    for name, value in DEFAULT._asdict().items():
+        yield f"{name} one more by default", f"    {name}: int = {value}\n", f"    {name}: int = {value + 1}\n"
+
+
+ADMISSION = [
+    *off_defaults(),
+    *off_rules(),
+    ("rule 1 leaves Channel_DL out", "min(t) - 1,", "min(t[1:]) - 1,"),
+    ("rule 1 leaves ChangeDL out", "min(t) - 1,", "min(t[:-1]) - 1,"),
+    ("Ch for 2Ch", "2 * t.Channel_DL", "t.Channel_DL"),
+    ("2Ch wraps at 16 bits", "2 * t.Channel_DL", "2 * t.Channel_DL % 2**16"),
+    ("route sums wrap at 16 bits", "t.ChangeDL - route_sum for", "t.ChangeDL - route_sum % 2**16 for"),
+    ("F with Zero_DL", "f = t.Sync_DL", "f = t.Zero_DL"),
+    ("F without CloseClutch_DL", "t.SetGear_DL + t.CloseClutch_DL\n    n", "t.SetGear_DL\n    n"),
+    ("N with Sync_DL", "n = t.Zero_DL", "n = t.Sync_DL"),
+    ("N with SetGear_DL", "t.Release_DL + t.CloseClutch_DL", "t.SetGear_DL + t.CloseClutch_DL"),
+    ("G1 with Zero_DL", "t.Zero_EX + t.Release_DL + f", "t.Zero_DL + t.Release_DL + f"),
+    ("G1 with Sync_EX", "t.Zero_EX + t.Release_DL + f", "t.Sync_EX + t.Release_DL + f"),
+    ("G1 without Release_DL", "t.Zero_EX + t.Release_DL + f", "t.Zero_EX + f"),
+    ("G1 with N for F", "t.Release_DL + f\n", "t.Release_DL + n\n"),
+    ("G2 with Zero_EX", "g2 = t.Zero_DL", "g2 = t.Zero_EX"),
+    ("G2 without SetGear_DL", "t.Release_DL + t.SetGear_DL + t.CloseClutch_DL", "t.Release_DL + t.CloseClutch_DL"),
+    ("the last broken rule is given", "next((rule for rule, slack in enumerate(slacks(table), 1) if slack < 0), 0)",
+     "max((rule for rule, slack in enumerate(slacks(table), 1) if slack < 0), default=0)"),
+]
+
+# The phase table, and the limits by order.
+
+NEIGHBOURS = {
+    "SYNC": "ZERO_TORQUE",
+    "ZERO_TORQUE": "SYNC",
+    "OPEN": "CLOSE",
+    "CLOSE": "OPEN",
+    "SET": "RELEASE",
+    "RELEASE": "SET",
+}
+# Each phase's order, the rest of its row, and that with another next phase.
+ROWS = {
+    1: ("SYNC", "3, 2", "4, 2"),
+    2: ("OPEN", "4", "3"),
+    3: ("SET", "DONE", "5"),
+    4: ("SET", "5", "DONE"),
+    5: ("CLOSE", "DONE", "AT_REST"),
+    6: ("ZERO_TORQUE", "8, 7", "9, 7"),
+    7: ("OPEN", "9", "8"),
+    8: ("RELEASE", "10", "12"),
+    9: ("RELEASE", "14", "13"),
+    10: ("SYNC", "12, 11", "13, 11"),
+    11: ("OPEN", "13", "14"),
+    12: ("SET", "DONE", "15"),
+    13: ("SET", "15", "16"),
+    14: ("SET", "16", "15"),
+    15: ("CLOSE", "DONE", "AT_REST"),
+    16: ("CLOSE", "DONE", "ERROR"),
+    17: ("ZERO_TORQUE", "19, 18", "20, 18"),
+    18: ("OPEN", "20", "19"),
+    19: ("RELEASE", "DONE", "21"),
+    20: ("RELEASE", "21", "DONE"),
+    21: ("CLOSE", "DONE", "AT_REST"),
+}
+
+
+def off_rows():
+    """Each phase with the neighbour of its order, and with another next phase."""
+    for phase, (order, rest, wrong) in ROWS.items():
+        row, other = f" {phase}: Phase({order}, {rest})", NEIGHBOURS[order]
+        yield f"phase {phase} has the order {words(other)}", row, f" {phase}: Phase({other}, {rest})"
+        yield f"phase {phase} is taken to another phase", row, f" {phase}: Phase({order}, {wrong})"
+
+
+def off_limits():
+    """Each order's limits one more."""
+    for order in NEIGHBOURS:
+        for limit in ("device_limit", "phase_limit"):
+            place = f"getattr(table, order.{limit})"
+            yield f"the {words(limit)} of {words(order)} one more", place, f"{place} + (order is {order})"
+
+
+PHASES = [
+    *off_rows(),
+    *off_limits(),
+    ("phase 1 asks for the clutch as 6", "Phase(SYNC, 3, 2)", "Phase(SYNC, 3, 7)"),
+    ("phase 6 asks for the clutch as 17", "Phase(ZERO_TORQUE, 8, 7)", "Phase(ZERO_TORQUE, 8, 18)"),
+    ("phase 10 asks for the clutch as 1", "Phase(SYNC, 12, 11)", "Phase(SYNC, 12, 2)"),
+    ("phase 17 asks for the clutch as 6", "Phase(ZERO_TORQUE, 19, 18)", "Phase(ZERO_TORQUE, 19, 7)"),
+    ("sync has the device limit of zero torque", '"Engine_Sync_DL"', '"Engine_Zero_DL"'),
+    ("zero torque has the device limit of sync", '"Engine_Zero_DL"', '"Engine_Sync_DL"'),
+    ("open has the device limit of close", '"Clutch_Open_DL"', '"Clutch_Close_DL"'),
+    ("close has the device limit of open", '"Clutch_Close_DL"', '"Clutch_Open_DL"'),
+    ("set has the device limit of release", '"Gear_Set_DL"', '"Gear_Release_DL"'),
+    ("release has the device limit of set", '"Gear_Release_DL"', '"Gear_Set_DL"'),
+    ("sync has the phase limit of zero torque", '"Sync_DL"', '"Zero_DL"'),
+    ("zero torque has the phase limit of sync", '"Zero_DL"', '"Sync_DL"'),
+    ("open has the phase limit of close", '"OpenClutch_DL"', '"CloseClutch_DL"'),
+    ("close has the phase limit of open", '"CloseClutch_DL"', '"OpenClutch_DL"'),
+    ("set has the phase limit of release", '"SetGear_DL"', '"Release_DL"'),
+    ("release has the phase limit of set", '"Release_DL"', '"SetGear_DL"'),
+    ("sync has the EX of zero torque", '"Sync_EX"', '"Zero_EX"'),
+    ("zero torque has the EX of sync", '"Zero_EX"', '"Sync_EX"'),
+    ("sync has the DE of zero torque", '"Sync_DE"', '"Zero_DE"'),
+    ("zero torque has the DE of sync", '"Zero_DE"', '"Sync_DE"'),
+    ("sync has DE for EX", '"Sync_EX"', '"Sync_DE"'),
+    ("zero torque has EX for DE", '"Zero_DE"', '"Zero_EX"'),
+]
+
+# Entering a phase.
+
+PHASE_TIME, STAGE_TIME = "phase_time=state.clock,", "stage_time=state.clock,"
+TO_NEUTRAL = "LAST_PHASES_TO_NEUTRAL = 19, 21"
+FAILED, OTHERWISE = "failed_phase=state.phase if phase == ERROR", "if phase == ERROR else 0,"
+
+ENTERING = [
+    ("entering keeps the phase time", PHASE_TIME, "phase_time=state.phase_time,"),
+    ("entering 0, 22 or 23 keeps the phase time", PHASE_TIME,
+     "phase_time=state.clock if phase in PHASES else state.phase_time,"),
+    ("entering keeps the stage time", STAGE_TIME, "stage_time=state.stage_time,"),
+    ("entering 0, 22 or 23 keeps the stage time", STAGE_TIME,
+     "stage_time=state.clock if phase in PHASES else state.stage_time,"),
+    ("entering 1 to 21 keeps the stage", "stage=SENT if phase", "stage=state.stage if phase"),
+    ("entering 1 to 21 makes the stage working", "stage=SENT if phase", "stage=WORKING if phase"),
+    ("entering 0, 22 or 23 keeps the stage", "in PHASES else NONE,", "in PHASES else state.stage,"),
+    ("entering 0, 22 or 23 makes the stage sent", "in PHASES else NONE,", "in PHASES else SENT,"),
+    ("entering 22 keeps the box", "if phase == DONE:", "if False:"),
+    ("entering 22 from 19 and 21 keeps the box", "box = NEUTRAL if", "box = state.box if"),
+    ("entering 22 from 19 and 21 makes the box in gear", "box = NEUTRAL if", "box = IN_GEAR if"),
+    ("entering 22 from other phases makes the box neutral", "TO_NEUTRAL else IN_GEAR", "TO_NEUTRAL else NEUTRAL"),
+    ("entering 22 from other phases keeps the box", "TO_NEUTRAL else IN_GEAR", "TO_NEUTRAL else state.box"),
+    ("entering 22 from 19 makes the box in gear", TO_NEUTRAL, "LAST_PHASES_TO_NEUTRAL = 21,"),
+    ("entering 22 from 21 makes the box in gear", TO_NEUTRAL, "LAST_PHASES_TO_NEUTRAL = 19,"),
+    ("entering 22 from 16 makes the box neutral", TO_NEUTRAL, "LAST_PHASES_TO_NEUTRAL = 16, 19, 21"),
+    ("entering 23 from 19 and 21 makes the box neutral", "if phase == DONE:",
+     "if phase == DONE or phase == ERROR and state.phase in LAST_PHASES_TO_NEUTRAL:"),
+    ("entering 0 keeps the request time", "request_time = 0", "request_time = state.request_time"),
+    ("entering 0 sets the request time to the clock", "request_time = 0", "request_time = state.clock"),
+    ("entering 22 sets the request time to 0", "if phase == AT_REST:", "if phase in (AT_REST, DONE):"),
+    ("entering 23 sets the request time to 0", "if phase == AT_REST:", "if phase in (AT_REST, ERROR):"),
+    ("entering 23 sets the failed phase to 0", FAILED, "failed_phase=0 if phase == ERROR"),
+    ("entering 23 sets the failed phase to 23", FAILED, "failed_phase=phase if phase == ERROR"),
+    ("entering 23 keeps the failed phase", FAILED, "failed_phase=state.failed_phase if phase == ERROR"),
+    ("entering 22 sets the failed phase", FAILED, "failed_phase=state.phase if phase in (DONE, ERROR)"),
+    ("entering 0 keeps the failed phase", OTHERWISE,
+     "if phase == ERROR else state.failed_phase if phase == AT_REST else 0,"),
+    ("entering 22 keeps the failed phase", OTHERWISE,
+     "if phase == ERROR else state.failed_phase if phase == DONE else 0,"),
+    ("entering 1 to 21 keeps the failed phase", OTHERWISE,
+     "if phase == ERROR else state.failed_phase if phase in PHASES else 0,"),
+]
+
+# The twelve steps: codes and amounts, when a step is allowed, its limits and its effect.
+
+CODES = [
+    ("code 0 is a step", "    TICK: (range", "    0: ({AT_REST}, STAGES),\n    TICK: (range"),
+    ("code 13 is a step", "    TICK: (range", "    13: ({AT_REST}, STAGES),\n    TICK: (range"),
+    ("code 12 is no step", "if code not in ALLOWED:", "if code not in range(1, TICK):"),
+    ("a tick of 0 is allowed", "(1, LONGEST_TICK)", "(0, LONGEST_TICK)"),
+    ("a tick of 1 is refused", "(1, LONGEST_TICK)", "(2, LONGEST_TICK)"),
+    ("a tick of 65,535 is refused", "(1, LONGEST_TICK)", "(1, LONGEST_TICK - 1)"),
+    ("a tick of 65,536 is allowed", "(1, LONGEST_TICK)", "(1, LONGEST_TICK + 1)"),
+    ("an amount of 1 is allowed for codes 1 to 11", "else (0, 0)", "else (0, 1)"),
+    ("the middle byte may be anything", "middle == 0 and least", "least"),
+    ("the middle byte may be 1", "middle == 0 and least", "middle <= 1 and least"),
+    ("the middle byte may be 255", "middle == 0 and least", "middle in (0, 255) and least"),
+]
+
+FROM_NEUTRAL, GEAR_TO_GEAR = "FROM_NEUTRAL: ({AT_REST}, STAGES)", "GEAR_TO_GEAR: ({AT_REST}, STAGES)"
+FINISH = "FINISH: ({DONE}, STAGES)"
+WRONG_BOX, UNLISTED_BOX = "if code in REQUESTS and state.box", "state.box not in BOXES"
+
+ALLOWED_WHEN = [
+    ("request from neutral in stage none alone", FROM_NEUTRAL, "FROM_NEUTRAL: ({AT_REST}, {NONE})"),
+    ("request from neutral in stage 6", FROM_NEUTRAL, "FROM_NEUTRAL: ({AT_REST}, range(7))"),
+    ("request from neutral in done", FROM_NEUTRAL, "FROM_NEUTRAL: ({AT_REST, DONE}, STAGES)"),
+    ("request gear to gear in stage none alone", GEAR_TO_GEAR, "GEAR_TO_GEAR: ({AT_REST}, {NONE})"),
+    ("request gear to gear in done", GEAR_TO_GEAR, "GEAR_TO_GEAR: ({AT_REST, DONE}, STAGES)"),
+    ("request to neutral in stage none alone", "{AT_REST}, STAGES),\n    DELIVER", "{AT_REST}, {NONE}),\n    DELIVER"),
+    ("request from neutral with the box in gear", "Request(NEUTRAL, 1)", "Request(IN_GEAR, 1)"),
+    ("request gear to gear with the box neutral", "Request(IN_GEAR, 6)", "Request(NEUTRAL, 6)"),
+    ("request to neutral with the box neutral", "Request(IN_GEAR, 17)", "Request(NEUTRAL, 17)"),
+    ("request to neutral with either box", WRONG_BOX, "if code in REQUESTS and code != TO_NEUTRAL and state.box"),
+    ("deliver in stage working", "(PHASES, {SENT})", "(PHASES, {SENT, WORKING})"),
+    ("deliver in stage none", "(PHASES, {SENT})", "(PHASES, {NONE, SENT})"),
+    ("device good in stage sent", "DEVICE_GOOD: (PHASES, {", "DEVICE_GOOD: (PHASES, {SENT, "),
+    ("device good in stage waiting", "DEVICE_GOOD: (PHASES, {", "DEVICE_GOOD: (PHASES, {WAITING, "),
+    ("device good in no engine phase", "DEVICE_GOOD: (PHASES", "DEVICE_GOOD: (DEVICE_PHASES"),
+    ("device failed in an engine phase", "DEVICE_FAILED: (DEVICE_PHASES", "DEVICE_FAILED: (PHASES"),
+    ("device failed in stage good", "(DEVICE_PHASES, {WORKING})", "(DEVICE_PHASES, {WORKING, GOOD})"),
+    ("engine waits in any of 1 to 21", "ENGINE_WAITS: (ENGINE_PHASES", "ENGINE_WAITS: (PHASES"),
+    ("engine waits in stage good", "(ENGINE_PHASES, {WORKING})", "(ENGINE_PHASES, {WORKING, GOOD})"),
+    ("take in stage working", "(PHASES, {GOOD})", "(PHASES, {WORKING, GOOD})"),
+    ("take in stage waiting", "(PHASES, {GOOD})", "(PHASES, {GOOD, WAITING})"),
+    ("ask clutch in stage working", "(ENGINE_PHASES, {WAITING})", "(ENGINE_PHASES, {WORKING, WAITING})"),
+    ("raise error in stage waiting", "(PHASES, {FAILED})", "(PHASES, {FAILED, WAITING})"),
+    ("raise error in no engine phase", "RAISE_ERROR: (PHASES", "RAISE_ERROR: (DEVICE_PHASES"),
+    ("finish in stage none alone", FINISH, "FINISH: ({DONE}, {NONE})"),
+    ("finish in stage 6", FINISH, "FINISH: ({DONE}, range(7))"),
+    ("finish in error", FINISH, "FINISH: ({DONE, ERROR}, STAGES)"),
+    ("finish at rest", FINISH, "FINISH: ({AT_REST, DONE}, STAGES)"),
+    ("a tick in phase 24", "range(ERROR + 1)", "range(ERROR + 2)"),
+    ("no tick in error", "range(ERROR + 1)", "range(ERROR)"),
+    ("a tick in stage 6", "(range(ERROR + 1), STAGES)", "(range(ERROR + 1), range(7))"),
+    ("a box of 2 is listed", UNLISTED_BOX, "state.box > 2"),
+    ("a box of 1 is not listed", UNLISTED_BOX, "state.box > 0"),
+    ("a failed phase above 23 is refused", UNLISTED_BOX, f"{UNLISTED_BOX} or state.failed_phase > ERROR"),
+]
+
+PASSED, EARLY = "if clock > latest", "if clock < earliest_clock(table, state, code)"
+EX, HAS_EX = "state.phase_time + getattr(table, order.expiry)", "if code == TAKE and order.expiry:"
+DE = "state.phase_time + getattr(table, PHASES[state.phase].order.earliest)"
+CHANNEL, CHANNEL_STAGES = "state.stage_time + table.Channel_DL", "(SENT, GOOD)"
+DEVICE, DEVICE_STAGE = "state.stage_time + getattr(table, order.device_limit)", "if state.stage == WORKING:"
+PHASE, ADD_PHASE = "state.phase_time + getattr(table, order.phase_limit)", "        latest.append((PAST_PHASE_LIMIT"
+
+LIMITS = [
+    ("equal is passed", PASSED, "if clock >= latest"),
+    ("one past is kept", PASSED, "if clock > latest + 1"),
+    ("EX one more", EX, f"{EX} + 1"),
+    ("EX one less", EX, f"{EX} - 1"),
+    ("EX from the stage time", EX, EX.replace("phase_time", "stage_time")),
+    ("EX wraps at 32 bits", EX, f"({EX}) % 2**32"),
+    ("no EX", HAS_EX, "if False:"),
+    ("EX in sync phases alone", HAS_EX, "if code == TAKE and order is SYNC:"),
+    ("EX in zero torque phases alone", HAS_EX, "if code == TAKE and order is ZERO_TORQUE:"),
+    ("DE one more", DE, f"{DE} + 1"),
+    ("DE one less", DE, f"{DE} - 1"),
+    ("DE from the stage time", DE, DE.replace("phase_time", "stage_time")),
+    ("DE from the request time", DE, DE.replace("phase_time", "request_time")),
+    ("DE wraps at 32 bits", DE, f"({DE}) % 2**32"),
+    ("no DE", EARLY, "if False"),
+    ("the clock up to 4,294,967,294", "(PAST_CLOCK, LAST_CLOCK)", "(PAST_CLOCK, LAST_CLOCK - 1)"),
+    ("the clock up to 4,294,967,296", "(PAST_CLOCK, LAST_CLOCK)", "(PAST_CLOCK, LAST_CLOCK + 1)"),
+    ("the clock without an end", "(PAST_CLOCK, LAST_CLOCK)", "(PAST_CLOCK, 2**64)"),
+    ("the channel's limit one more", CHANNEL, f"{CHANNEL} + 1"),
+    ("the channel's limit one less", CHANNEL, f"{CHANNEL} - 1"),
+    ("the channel's limit one more in stage sent", CHANNEL, f"{CHANNEL} + (state.stage == SENT)"),
+    ("the channel's limit one more in stage good", CHANNEL, f"{CHANNEL} + (state.stage == GOOD)"),
+    ("the channel's limit from the phase time", CHANNEL, CHANNEL.replace("stage_time", "phase_time")),
+    ("the channel's limit wraps at 32 bits", CHANNEL, f"({CHANNEL}) % 2**32"),
+    ("2Ch for the channel's limit", CHANNEL, f"{CHANNEL} * 2"),
+    ("the channel's limit in stage sent alone", CHANNEL_STAGES, "(SENT,)"),
+    ("the channel's limit in stage good alone", CHANNEL_STAGES, "(GOOD,)"),
+    ("the channel's limit in stage failed too", CHANNEL_STAGES, "(SENT, GOOD, FAILED)"),
+    ("the channel's limit in stage waiting too", CHANNEL_STAGES, "(SENT, GOOD, WAITING)"),
+    ("the device's limit one more", DEVICE, f"{DEVICE} + 1"),
+    ("the device's limit one less", DEVICE, f"{DEVICE} - 1"),
+    ("the device's limit from the phase time", DEVICE, DEVICE.replace("stage_time", "phase_time")),
+    ("the device's limit wraps at 32 bits", DEVICE, f"({DEVICE}) % 2**32"),
+    ("the device's limit in stage waiting too", DEVICE_STAGE, "if state.stage in (WORKING, WAITING):"),
+    ("the device's limit in stage sent too", DEVICE_STAGE, "if state.stage in (SENT, WORKING):"),
+    ("no device's limit", DEVICE_STAGE, "if False:"),
+    ("the phase limit one more", PHASE, f"{PHASE} + 1"),
+    ("the phase limit one less", PHASE, f"{PHASE} - 1"),
+    ("the phase limit from the stage time", PHASE, PHASE.replace("phase_time", "stage_time")),
+    ("the phase limit from the request time", PHASE, PHASE.replace("phase_time", "request_time")),
+    ("the phase limit wraps at 32 bits", PHASE, f"({PHASE}) % 2**32"),
+    *((f"no phase limit in stage {words(stage)}", ADD_PHASE, f"        state.stage == {stage} or {ADD_PHASE.strip()}")
+      for stage in ("NONE", "SENT", "WORKING", "GOOD", "FAILED", "WAITING")),
+]
+
+STAGED, TICKED = "stage_time=state.clock)", "clock=state.clock + amount)"
+NEXT, CLUTCH = "PHASES[state.phase].when_taken", "PHASES[state.phase].when_asked"
+AFTER = "return number, state if number else after(state, code, amount)"
+
+EFFECTS = [
+    ("a request keeps the request time", "enter(state._replace(request_time=state.clock), ", "enter(state, "),
+    ("request from neutral enters 2", "Request(NEUTRAL, 1)", "Request(NEUTRAL, 2)"),
+    ("request gear to gear enters 17", "Request(IN_GEAR, 6)", "Request(IN_GEAR, 17)"),
+    ("request to neutral enters 6", "Request(IN_GEAR, 17)", "Request(IN_GEAR, 6)"),
+    *((f"{words(step)} keeps the stage time", STAGED,
+       f"stage_time=state.stage_time if code == {step} else state.clock)")
+      for step in ("DELIVER", "DEVICE_GOOD", "DEVICE_FAILED", "ENGINE_WAITS")),
+    ("deliver sets the phase time", STAGED,
+     "stage_time=state.clock, phase_time=state.clock if code == DELIVER else state.phase_time)"),
+    ("deliver makes the stage good", "{DELIVER: WORKING", "{DELIVER: GOOD"),
+    ("device good makes the stage waiting", "DEVICE_GOOD: GOOD", "DEVICE_GOOD: WAITING"),
+    ("device failed makes the stage good", "DEVICE_FAILED: FAILED", "DEVICE_FAILED: GOOD"),
+    ("engine waits makes the stage failed", "ENGINE_WAITS: WAITING", "ENGINE_WAITS: FAILED"),
+    ("take enters the clutch phase if there is one", NEXT, f"{CLUTCH} or {NEXT}"),
+    ("ask clutch enters the next phase", CLUTCH, NEXT),
+    ("raise error enters 22", "enter(state, ERROR)", "enter(state, DONE)"),
+    ("raise error enters 0", "enter(state, ERROR)", "enter(state, AT_REST)"),
+    ("finish enters 23", "enter(state, AT_REST)", "enter(state, ERROR)"),
+    ("a tick moves the clock one too far", TICKED, "clock=state.clock + amount + 1)"),
+    ("a tick sets the stage time", TICKED, "clock=state.clock + amount, stage_time=state.clock)"),
+    ("a tick sets the failed phase to 0", TICKED, "clock=state.clock + amount, failed_phase=0)"),
+    ("a step hands its state back untouched", AFTER, "return number, state"),
+    ("a refused tick moves the clock", AFTER, AFTER.replace("if number", "if number and code != TICK")),
+]
+
+# The order of refusals of one step: 4, 5, 6, 7, 8, 9, 10 and 13, 12, 11. No step can get two of 8, 9 and 10.
+
+RULE, RULE_ANSWER = "    if rule:", "return NOT_ADMITTED, rule, state"
+NO_CODE, ALLOWED = "if code not in ALLOWED:", "    phases, stages = ALLOWED[code]\n"
+NUMBER = "number = unreadable(code, amount, middle) or forbidden(table, state, code, amount)"
+FORBIDDEN = "(code in ALLOWED and forbidden(table, state, code, amount))"
+LATEST = "    return latest\n"
+PAST_FIRST = """\
+    for number, latest in latest_clocks(table, state, code) if code == {} and state.phase in {} else ():
+        if state.clock + amount > latest:
+            return number
+"""
+
+STEP_ORDER = [
+    ("5 before 4", RULE, "    if rule and code in ALLOWED:"),
+    ("5 and 6 before 4", RULE, "    if rule and not unreadable(code, amount, middle):"),
+    *((f"{number} before 4", RULE, f"    if rule and (unreadable(code, amount, middle) or {FORBIDDEN} != {number}):")
+      for number in range(7, 14)),
+    ("4 without its rule", RULE_ANSWER, "return NOT_ADMITTED, 0, state"),
+    ("4 with the start state", RULE_ANSWER, "return NOT_ADMITTED, rule, START"),
+    ("6 for the middle byte before 5", NO_CODE, "if code not in ALLOWED and middle == 0:"),
+    ("6 for the amount before 5", NO_CODE, "if code not in ALLOWED and amount == 0:"),
+    *((f"7 for the {field} before 5", NUMBER, NUMBER.replace("= ", f"= (state.{field} > {last} and NOT_ALLOWED) or "))
+      for field, last in (("phase", "ERROR"), ("stage", "WAITING"), ("box", "IN_GEAR"))),
+    *((f"{number} before 6", NUMBER, NUMBER.replace("= ", f"= ({FORBIDDEN} == {number} and {number}) or "))
+      for number in range(7, 14)),
+    ("8 before 7", ALLOWED, f"{ALLOWED}    {WRONG_BOX} != REQUESTS[code].box:\n        return WRONG_BOX\n"),
+    ("8 before 7 for a box above 1", UNLISTED_BOX, f"{UNLISTED_BOX} and code not in REQUESTS"),
+    ("9 before 7", ALLOWED,
+     f"{ALLOWED}    if state.phase in ENGINE_PHASES and state.clock < earliest_clock(table, state, code):\n"
+     "        return TOO_EARLY\n"),
+    ("10 before 7", ALLOWED, ALLOWED + PAST_FIRST.format("TAKE", "PHASES")),
+    ("13, 12 and 11 before 7", ALLOWED, ALLOWED + PAST_FIRST.format("TICK", "range(256)")),
+    ("12 before 13", LATEST, "    return latest[1:-1] + latest[:1] + latest[1:][-1:]\n"),
+    ("11 before 12", LATEST, "    return latest[:1] + latest[1:][::-1]\n"),
+    ("11 before 13", LATEST, "    return latest[1:][-1:] + latest[:1] + latest[1:-1]\n"),
+    ("12 and 11 before 13", LATEST, "    return latest[1:] + latest[:1]\n"),
+]
+
+WRONG_RULES = [
+    *ADMISSION, *PHASES, *ENTERING, *CODES, *ALLOWED_WHEN, *LIMITS, *EFFECTS, *STEP_ORDER,
+]
