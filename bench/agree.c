@@ -178,7 +178,7 @@ static unsigned compare_named(int count, char **names)
     for (int i = 0; i < count; i++) {
         FILE *from = fopen(names[i], "rb");
         file_length = from ? fread(file, 1, sizeof file, from) : 0;
-        if (!from || !same_verdict()) {
+        if (!from || ferror(from) || !same_verdict()) {
             printf("%s: the verdicts differ, or it can not be read\n", names[i]);
             differ++;
         }

@@ -122,9 +122,10 @@ static int load(const char *name)
     if (!from)
         return 0;
     file_length = fread(file, 1, sizeof file, from);
+    int failed = ferror(from);
     fclose(from);
     records = file + file[4];
-    return 1;
+    return !failed;
 }
 
 int main(int words, char **word)
