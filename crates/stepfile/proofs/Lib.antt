@@ -11,6 +11,7 @@ pub mod WholeLaws
 pub mod RoundTrip
 pub mod RoundTripCalls
 pub mod FileRefusals
+pub mod RecordRefusals
 pub mod WriteRefusals
 pub mod Refusals
 pub mod Determined
