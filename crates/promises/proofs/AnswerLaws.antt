@@ -23,12 +23,14 @@ use Rattle.shift.specs.declared.Reading.the-variants.{Means, WrongCode, WrongAm
 use Rattle.shift.specs.declared.Answer.{Answer}
 use Rattle.shift.specs.Answers.{reading, guard, led, answer, judged, admitting}
 use Rattle.limits.specs.Refusals.{broken}
-use Rattle.promises.specs.Effects.{Effect, codeOf, amountOf}
-use Rattle.promises.specs.Refusals.{Reads, recordRefusals, refusals, Answered}
+use Rattle.shift.specs.Refusals.{codeOf, amountOf, Reads}
+use Rattle.shift.proofs.Refusals.{a-code, reads}
+use Rattle.promises.specs.Effects.{Effect}
+use Rattle.promises.specs.Refusals.{recordRefusals, refusals, Answered}
 use Rattle.limits.proofs.Refusals.{in-order, admitted-in-the-document's-words}
 use Rattle.promises.proofs.Permitted.{permitted}
 use Rattle.promises.proofs.EffectLaws.{effects}
-use Rattle.promises.proofs.RefusalLaws.{no-request, a-code, reads, first-refusal}
+use Rattle.promises.proofs.RefusalLaws.{no-request, first-refusal}
 
 -- ---- number and state of an answer, by the broken rule k and the guard's g
 module _ (next s : State) where

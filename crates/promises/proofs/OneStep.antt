@@ -16,13 +16,9 @@ use Rattle.shift.specs.Answers.{reading, guard}
 use Rattle.shift.proofs.State.step as step-call
 use Rattle.shift.proofs.State.step.Reads as step-reads
 use Rattle.limits.specs.Refusals.{broken}
-use Rattle.promises.specs.Refusals.{Reads, recordRefusals, refusals, Answered}
-use Rattle.promises.proofs.RefusalLaws.{reads, first-refusal}
+use Rattle.promises.specs.Refusals.{recordRefusals, refusals, Answered}
+use Rattle.promises.proofs.RefusalLaws.{first-refusal}
 use Rattle.promises.proofs.AnswerLaws.{answered, with-its-rule, the-one, of-a-tick, of-another-step}
-
--- what a code, a middle byte and an amount mean
-pub read-in-the-document's-words : (code middle amount : ℕ) → Reads code middle amount (reading code middle amount)
-read-in-the-document's-words code middle amount = reads middle amount code
 
 -- the number of a record, where the table has been tested: the first whose condition holds, and 0 where none does
 pub refused-in-the-document's-words :

@@ -1,19 +1,17 @@
 -- The number of a step's answer is the first of the document's numbers whose condition, in words, holds.
 -- Assumes nothing.
-use mathlib.Core.Path.{_≡_, refl, sym, subst, _∙_}
+use mathlib.Core.Path.{_≡_, refl, subst}
 use mathlib.Core.Logic.{inl, inr, ⊎-elim, _↔_}
-use mathlib.Core.Bool.{Bool, true, false, not, cond, _&&_}
+use mathlib.Core.Bool.{Bool, true, false, not, _&&_}
 use mathlib.Core.List.{List, [], _∷_, _++_, append-nil}
-use Prim.Native.Nat.{ℕ, _+_, _≤_, _<_}
-use native.Mathlib.Decide.{decLt}
+use Prim.Native.Nat.{ℕ, _+_, _≤_}
 use native.Mathlib.Omega.{arith}
-use lib.Dec.{T, leb, ltb, eqb, leb→le, le→leb, ltb→lt, eqb→eq}
+use lib.Dec.{T, leb, eqb, eqb→eq}
 use Rattle.checks.specs.Checks.{Check, _!_, first}
 use Rattle.checks.proofs.Checks.{Holds}
 use Rattle.checks.specs.Conditions.{Condition, _gives_, FirstOf, OneOf}
 use Rattle.checks.proofs.ConditionLaws.{first-of}
-use Rattle.checks.proofs.Tests.{tests, eq→eqb, case, passes, left, right, both}
-use Rattle.checks.proofs.Ranges.{below}
+use Rattle.checks.proofs.Tests.{tests, case, passes, left, right}
 use Rattle.limits.specs.declared.Table.{Table}
 use Rattle.phases.proofs.ByPhaseLaws.{each, de-in}
 use Rattle.shift.specs.declared.State.{State}
@@ -22,11 +20,11 @@ use Rattle.shift.specs.declared.Step.the-variants.{FromNeutral, GearToGear, ToN
 use Rattle.shift.specs.declared.Reading.{Reading}
 use Rattle.shift.specs.declared.Reading.the-variants.{Means, WrongCode, WrongAmount}
 use Rattle.shift.specs.Steps.{restsIn, shiftsIn, inEngine, inTakeTime, inAskTime, inTickTime, askBound}
-use Rattle.shift.specs.Answers.{plain, ticking, reading, listed, checks, guard}
-use Rattle.shift.proofs.ReadingLaws.{past-codes}
+use Rattle.shift.specs.Answers.{reading, listed, checks, guard}
 use Rattle.promises.specs.Allowed.{Listed, Shifting, Permitted}
-use Rattle.promises.specs.Effects.{codeOf, amountOf}
-use Rattle.promises.specs.Refusals.{NoCode, Formed, Reads, placings, byCode, Misplaced, WrongSide, TooEarly, TooLate, PastClock, PastStage, PastPhase, recordRefusals}
+use Rattle.shift.specs.Refusals.{codeOf, amountOf, Reads}
+use Rattle.shift.proofs.Refusals.{reads}
+use Rattle.promises.specs.Refusals.{placings, byCode, Misplaced, WrongSide, TooEarly, TooLate, PastClock, PastStage, PastPhase, recordRefusals}
 use Rattle.promises.proofs.Permitted.{said, meant}
 use Rattle.promises.proofs.PlaceLaws.{withinEx, engine-phase, engine-order, in-take-time, too-late, in-channel-time, in-device-time, past-stage, in-phase-time, past-phase}
 
@@ -230,64 +228,6 @@ module _ (t : Table) (s : State) (code middle amount : ℕ) where
       )
   of-reading WrongCode h = inl (h, refl)
   of-reading WrongAmount h = inr (h .0, inl (h .1, refl))
-
--- ---- what is read
-pub a-code : (code : ℕ) → 1 ≤ code → code ≤ 12 → ¬ NoCode code
-a-code code l m h = ⊎-elim (λ e. omega arith) (λ e. omega arith) h
-
-module _ (middle amount : ℕ) where
-  of-test :
-      (b : Bool) (code : ℕ) (x : Step) → ¬ NoCode code → (T b → Formed code middle amount) → (Formed code middle amount → T b)
-      → codeOf x ≡ code → (T b → amountOf x ≡ amount)
-      → Reads code middle amount (cond b (Means x) WrongAmount)
-  of-test true code x k f g c n = (k, f tt, c, n tt)
-  of-test false code x k f g c n = (k, g)
-
-  of-plain : (x : Step) → T (ltb (codeOf x) 12 && (leb 1 (codeOf x) && eqb (amountOf x) 0)) → Reads (codeOf x) middle amount (plain x middle amount)
-  of-plain x o =
-      let code = codeOf x in
-      let rest = right (ltb code 12) (leb 1 code && eqb (amountOf x) 0) o in
-      let high = ltb→lt code 12 (left (ltb code 12) (leb 1 code && eqb (amountOf x) 0) o) in
-      let low = leb→le 1 code (left (leb 1 code) (eqb (amountOf x) 0) rest) in
-      let none = eqb→eq (amountOf x) 0 (right (leb 1 code) (eqb (amountOf x) 0) rest) in
-      let m = eqb middle 0 in
-      let a = eqb amount 0 in
-      of-test (m && a) code x (a-code code low (omega arith))
-      (λ h. record {
-        middle-byte = eqb→eq middle 0 (left m a h);
-        plain = λ _. eqb→eq amount 0 (right m a h);
-        tick = λ e. absurd (omega arith);
-      })
-      (λ f. both m a (eq→eqb middle 0 (f .middle-byte)) (eq→eqb amount 0 (f .plain (omega arith))))
-      refl
-      (λ h. none ∙ sym (eqb→eq amount 0 (right m a h)))
-
-  of-tick : Reads 12 middle amount (ticking middle amount)
-  of-tick =
-      let m = eqb middle 0 in
-      let low = leb 1 amount in
-      let high = leb amount 65535 in
-      of-test (m && (low && high)) 12 (Tick amount) (a-code 12 (omega arith) (omega arith))
-      (λ h. record {
-        middle-byte = eqb→eq middle 0 (left m (low && high) h);
-        plain = λ l. absurd (omega arith);
-        tick = λ _. let r = right m (low && high) h in (leb→le 1 amount (left low high r), leb→le amount 65535 (right low high r));
-      })
-      (λ f. let r = f .tick refl in both m (low && high) (eq→eqb middle 0 (f .middle-byte)) (both low high (le→leb 1 amount (r .0)) (le→leb amount 65535 (r .1))))
-      refl
-      (λ h. refl)
-
-  by-code : (code : ℕ) → code < 13 → Reads code middle amount (reading code middle amount)
-  by-code =
-      below (λ code. Reads code middle amount (reading code middle amount)) 13
-      (((((((((((((tt, inl refl), of-plain FromNeutral tt), of-plain GearToGear tt), of-plain ToNeutral tt), of-plain Deliver tt), of-plain DeviceGood tt), of-plain DeviceFailed tt), of-plain EngineWaits tt), of-plain Take tt), of-plain AskClutch tt), of-plain RaiseError tt), of-plain Finish tt), of-tick)
-
-  pub reads : (code : ℕ) → Reads code middle amount (reading code middle amount)
-  reads code =
-      elim (decLt code 13) [
-        | yes h ↦ by-code code h
-        | no h ↦ rw (past-codes middle amount code (omega arith)) (inr (omega arith))
-      ]
 
 -- the number of a record, under a table that has been tested
 pub first-refusal :

@@ -66,32 +66,3 @@ abbrev pub Makes : State → Reading → State → Type 0
 Makes s (Means x) s′ = Effect s x s′
 Makes s WrongCode s′ = ⊥
 Makes s WrongAmount s′ = ⊥
-
--- the code of a step, and its amount
-abbrev pub codeOf : Step → ℕ
-codeOf FromNeutral = 1
-codeOf GearToGear = 2
-codeOf ToNeutral = 3
-codeOf Deliver = 4
-codeOf DeviceGood = 5
-codeOf DeviceFailed = 6
-codeOf EngineWaits = 7
-codeOf Take = 8
-codeOf AskClutch = 9
-codeOf RaiseError = 10
-codeOf Finish = 11
-codeOf (Tick n) = 12
-
-abbrev pub amountOf : Step → ℕ
-amountOf FromNeutral = 0
-amountOf GearToGear = 0
-amountOf ToNeutral = 0
-amountOf Deliver = 0
-amountOf DeviceGood = 0
-amountOf DeviceFailed = 0
-amountOf EngineWaits = 0
-amountOf Take = 0
-amountOf AskClutch = 0
-amountOf RaiseError = 0
-amountOf Finish = 0
-amountOf (Tick n) = n

@@ -5,34 +5,20 @@
 use mathlib.Core.Path.{_≡_}
 use mathlib.Core.Logic.{_⊎_}
 use mathlib.Core.List.{List, [], _∷_}
-use Prim.Native.Nat.{ℕ, zero, suc, _+_, _≤_, _<_}
+use Prim.Native.Nat.{ℕ, zero, suc, _+_, _<_}
 use Rattle.checks.specs.Conditions.{Condition, _gives_, FirstOf, OneOf}
 use Rattle.limits.specs.declared.Table.{Table}
 use Rattle.phases.specs.ByPhase.{deviceLimitIn, phaseLimitIn, exIn, deIn}
 use Rattle.shift.specs.declared.State.{State}
 use Rattle.shift.specs.declared.Step.{Step}
-use Rattle.shift.specs.declared.Reading.{Reading}
-use Rattle.shift.specs.declared.Reading.the-variants.{Means, WrongCode, WrongAmount}
+use Rattle.shift.specs.Refusals.{codeOf, amountOf, NoCode, Malformed}
 use Rattle.limits.specs.Refusals.{Admitted}
 use Rattle.promises.specs.Allowed.{Listed, Shifting, Engine}
-use Rattle.promises.specs.Effects.{Effect, codeOf, amountOf}
+use Rattle.promises.specs.Effects.{Effect}
 
 -- 4: the table breaks a rule
 abbrev pub NotAdmitted : Table → Type 0
 NotAdmitted t = ¬ Admitted t
-
--- 5: code 0 or above 12
-abbrev pub NoCode : ℕ → Type 0
-NoCode code = (code ≡ 0) ⊎ (12 < code)
-
--- 6: the middle byte is not 0, or the amount is not 0 for codes 1 to 11, not 1 to 65,535 for code 12
-pub record Formed (code middle amount : ℕ) : Type 0 where
-  pub middle-byte : middle ≡ 0
-  pub plain : code ≤ 11 → amount ≡ 0
-  pub tick : code ≡ 12 → (1 ≤ amount) × (amount ≤ 65535)
-
-abbrev pub Malformed : ℕ → ℕ → ℕ → Type 0
-Malformed code middle amount = ¬ Formed code middle amount
 
 -- 7: the state is not listed, or its phase or its stage does not allow the step; which do, by code from 0
 abbrev pub placings : State → List (Type 0)
@@ -105,12 +91,6 @@ recordRefusals t s code middle amount =
 
 abbrev pub refusals : Table → State → ℕ → ℕ → ℕ → List Condition
 refusals t s code middle amount = (NotAdmitted t gives 4) ∷ recordRefusals t s code middle amount
-
--- ---- what a code, a middle byte and an amount mean
-abbrev pub Reads : ℕ → ℕ → ℕ → Reading → Type 0
-Reads code middle amount (Means x) = ¬ NoCode code × Formed code middle amount × (codeOf x ≡ code) × (amountOf x ≡ amount)
-Reads code middle amount WrongCode = NoCode code
-Reads code middle amount WrongAmount = ¬ NoCode code × Malformed code middle amount
 
 -- ---- an answer to one step: the number of the first condition that holds, or 0 where none does; refused, the state is the one given;
 -- accepted, it is the one that the step of this code and this amount makes of it

@@ -4,3 +4,4 @@ pub mod AnswerLaws
 pub mod ListedLaws
 pub mod Determined
 pub mod KnownRuns
+pub mod Refusals

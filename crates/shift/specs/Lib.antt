@@ -2,3 +2,4 @@ pub mod States
 pub mod Steps
 pub mod Answers
 pub mod Runs
+pub mod Refusals

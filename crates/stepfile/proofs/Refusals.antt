@@ -1,8 +1,13 @@
--- A file and a write are refused by the first number whose condition holds, in the words of specs/Refusals.antt, and a refused write
+-- A file, a record and a write are refused by the first number whose condition holds, in the words of specs/Refusals.antt, and a refused write
 -- changes no byte: of the contracts.
 -- Assumes nothing.
+use Prim.Native.Nat.{_+_, _*_}
 use denote.Ref.{now}
+use Rattle.checks.specs.Conditions.{FirstOf}
+use Rattle.shift.specs.Refusals.{refusals}
+use Rattle.shift.proofs.Refusals.{in-order}
 use Rattle.stepfile.specs.Refusals.{FileAnswers, WriteAnswers}
+use Rattle.stepfile.proofs.record_refusal.Reads as record-refusal-reads
 use Rattle.stepfile.proofs.refused.Reads as refused-reads
 use Rattle.stepfile.proofs.write.write.Reads as write-reads
 use Rattle.stepfile.proofs.FileRefusals.{file-answers}
@@ -17,3 +22,8 @@ pub write :
     → WriteAnswers (a .0) (now (a .1 .0)) (now (a .1 .1 .0)) (now (a .1 .1 .1 .0)) (r .number) (r .rule) (r .index) (r .length)
     (now (at .1 .1 .1 .0))
 write κs a r at p = rw (p .0, p .1) (write-answers (a .0) (now (a .1 .0)) (now (a .1 .1 .0)) (now (a .1 .1 .1 .0)))
+
+pub record-refusal :
+    (κs : _) (a : _) (r : _) (at : _) → record-refusal-reads.Post κs a r at
+    → FirstOf (refusals (a .0) (a .1 .0) (a .1 .1 .0 + 256 * a .1 .1 .1 .0)) r
+record-refusal κs a r at p = rw p (in-order (a .0) (a .1 .0) (a .1 .1 .0 + 256 * a .1 .1 .1 .0))

@@ -10,6 +10,7 @@ use Rattle.checks.specs.Conditions.{Condition, _gives_, _else_, FirstOf, OneOf}
 use Rattle.limits.specs.declared.Table.{Table}
 use Rattle.limits.specs.Limits.{default}
 use Rattle.limits.specs.Refusals.{broken, Admitted}
+use Rattle.shift.specs.Refusals.{refusals}
 use Rattle.stepfile.specs.declared.write.Wish.{Wish}
 use Rattle.stepfile.specs.declared.write.Wish.the-variants.{Given, NoTable}
 
@@ -70,18 +71,11 @@ pub record FileAnswers (f : List ℕ) (number rule : ℕ) : Type 0 where
 
 -- ---- a write
 
--- of a code and an amount: 5, 6
-abbrev pub recordRefusals : ℕ → ℕ → List Condition
-recordRefusals code amount =
-    (((1 ≤ code) × (code ≤ 12)) else 5)
-    ∷ ((((code ≤ 11) × (amount ≡ 0)) ⊎ ((code ≡ 12) × (1 ≤ amount) × (amount ≤ 65535))) else 6)
-    ∷ []
-
--- the record at the index is refused with the number, and every record before it reads
+-- the record at the index is refused with the number, 5 or 6, and every record before it reads; a code and an amount have no middle byte
 pub record WrongAt (codes amounts : List ℕ) (number index : ℕ) : Type 0 where
   pub in-list : index < length codes
-  pub wrong : FirstOf (recordRefusals (getD codes index 0) (getD amounts index 0)) number
-  pub before : (i : ℕ) → i < index → FirstOf (recordRefusals (getD codes i 0) (getD amounts i 0)) 0
+  pub wrong : FirstOf (refusals (getD codes index 0) 0 (getD amounts index 0)) number
+  pub before : (i : ℕ) → i < index → FirstOf (refusals (getD codes i 0) 0 (getD amounts i 0)) 0
 
 -- the wish for no table means the default
 abbrev pub tableFor : Wish → Table
