@@ -1,5 +1,5 @@
--- A table is admitted where the fifteen rules hold in the words of specs/Refusals.antt, and the broken rule is the first of them that
--- does not.
+-- The default is the one of specs/Refusals.antt; a table is admitted where the fifteen rules hold in its words, and the broken rule is
+-- the first of them that does not.
 -- Assumes nothing.
 use mathlib.Core.Path.{_≡_, refl}
 use mathlib.Core.Logic.{_↔_}
@@ -15,8 +15,9 @@ use Rattle.checks.proofs.Tests.{left, right, both}
 use Rattle.limits.specs.declared.Table.{Table}
 use Rattle.limits.specs.Limits.{entries}
 use Rattle.limits.specs.Rules.{atLeast1, rules, brokenRule}
-use Rattle.limits.specs.Refusals.{All, rulesStated, Admitted, brokenFrom, broken}
+use Rattle.limits.specs.Refusals.{byDefault, All, rulesStated, Admitted, brokenFrom, broken}
 use Rattle.limits.proofs.Table.broken_rule.Reads as broken-rule-reads
+use Rattle.limits.proofs.Table.default.Reads as default-reads
 
 -- a test of a statement, and tests of a list of them
 abbrev pub Tests : Bool → Type 0 → Type 0
@@ -76,7 +77,10 @@ module _ (t : Table) where
   pub not-admitted : ¬ (brokenRule t ≡ 0) → ¬ Admitted t
   not-admitted n a = n (admitted-in-the-document's-words .1 a)
 
--- whatever the contract of `Table::broken_rule` allows
+-- ---- of the contracts
+pub default : (κs : _) (a : _) (r : _) (at : _) → default-reads.Post κs a r at → r ≡ byDefault
+default κs a r at p = p
+
 pub broken-rule :
     (κs : _) (a : _) (r : _) (at : _) → broken-rule-reads.Post κs a r at → FirstOf (broken (a .0)) r × (r ≤ 15)
 broken-rule κs a r at p = rw p (in-order (a .0), at-most-15 (a .0))

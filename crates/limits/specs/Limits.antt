@@ -54,6 +54,7 @@ tableOf es = record {
   «change_dl» = getD es 17 0;
 }
 
+-- entries 0 to 17 by default
 abbrev pub default : Table
 default =
     tableOf (5 ∷ 100 ∷ 200 ∷ 150 ∷ 150 ∷ 300 ∷ 200 ∷ 150 ∷ 250 ∷ 155 ∷ 255 ∷ 151 ∷ 251 ∷ 200 ∷ 350 ∷ 250 ∷ 200 ∷ 1500 ∷ [])

@@ -1,10 +1,32 @@
--- Document 01, "The limit table", a second time: the fifteen rules as statements, when a table is admitted, and which rule it breaks.
--- It shares no definition with Limits.antt and Rules.antt.
+-- Document 01, "The limit table", a second time: the default by name, the fifteen rules as statements, when a table is admitted, and
+-- which rule it breaks. It shares no definition with Limits.antt and Rules.antt.
 -- Assumes nothing.
 use mathlib.Core.List.{List, [], _∷_}
 use Prim.Native.Nat.{ℕ, suc, _+_, _*_, _≤_, _<_}
 use Rattle.checks.specs.Conditions.{Condition, _else_}
 use Rattle.limits.specs.declared.Table.{Table}
+
+abbrev pub byDefault : Table
+byDefault = record {
+  «channel_dl» = 5;
+  «engine_sync_dl» = 100;
+  «engine_zero_dl» = 200;
+  «clutch_open_dl» = 150;
+  «clutch_close_dl» = 150;
+  «gear_set_dl» = 300;
+  «gear_release_dl» = 200;
+  «sync_ex» = 150;
+  «zero_ex» = 250;
+  «sync_dl» = 155;
+  «zero_dl» = 255;
+  «sync_de» = 151;
+  «zero_de» = 251;
+  «open_clutch_dl» = 200;
+  «set_gear_dl» = 350;
+  «release_dl» = 250;
+  «close_clutch_dl» = 200;
+  «change_dl» = 1500;
+}
 
 -- all of a list of statements
 abbrev pub All : List (Type 0) → Type 0

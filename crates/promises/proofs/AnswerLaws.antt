@@ -13,6 +13,8 @@ use Rattle.checks.proofs.ConditionLaws.{no-other}
 use Rattle.checks.proofs.Tests.{case}
 use Rattle.limits.specs.declared.Table.{Table}
 use Rattle.limits.specs.Rules.{brokenRule}
+use Rattle.limits.specs.Refusals.{broken}
+use Rattle.limits.proofs.Refusals.{in-order, admitted-in-the-document's-words}
 use Rattle.phases.specs.ByPhase.{has}
 use Rattle.phases.proofs.ByPhaseLaws.{found}
 use Rattle.shift.specs.declared.State.{State}
@@ -22,12 +24,10 @@ use Rattle.shift.specs.declared.Reading.{Reading}
 use Rattle.shift.specs.declared.Reading.the-variants.{Means, WrongCode, WrongAmount}
 use Rattle.shift.specs.declared.Answer.{Answer}
 use Rattle.shift.specs.Answers.{reading, guard, led, answer, judged, admitting}
-use Rattle.limits.specs.Refusals.{broken}
 use Rattle.shift.specs.Refusals.{codeOf, amountOf, Reads}
 use Rattle.shift.proofs.Refusals.{a-code, reads}
 use Rattle.promises.specs.Effects.{Effect}
 use Rattle.promises.specs.Refusals.{recordRefusals, refusals, Answered}
-use Rattle.limits.proofs.Refusals.{in-order, admitted-in-the-document's-words}
 use Rattle.promises.proofs.Permitted.{permitted}
 use Rattle.promises.proofs.EffectLaws.{effects}
 use Rattle.promises.proofs.RefusalLaws.{no-request, first-refusal}

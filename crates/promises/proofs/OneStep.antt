@@ -10,12 +10,12 @@ use denote.Triple.Clauses.{AtExit}
 use Rattle.checks.specs.Conditions.{FirstOf, OneOf}
 use Rattle.checks.proofs.ConditionLaws.{one-of}
 use Rattle.limits.specs.declared.Table.{Table}
+use Rattle.limits.specs.Refusals.{broken}
 use Rattle.shift.specs.declared.State.{State}
 use Rattle.shift.specs.declared.Answer.{Answer}
 use Rattle.shift.specs.Answers.{reading, guard}
 use Rattle.shift.proofs.State.step as step-call
 use Rattle.shift.proofs.State.step.Reads as step-reads
-use Rattle.limits.specs.Refusals.{broken}
 use Rattle.promises.specs.Refusals.{recordRefusals, refusals, Answered}
 use Rattle.promises.proofs.RefusalLaws.{first-refusal}
 use Rattle.promises.proofs.AnswerLaws.{answered, with-its-rule, the-one, of-a-tick, of-another-step}

@@ -8,11 +8,11 @@ use mathlib.Core.List.{List, [], _∷_}
 use Prim.Native.Nat.{ℕ, zero, suc, _+_, _<_}
 use Rattle.checks.specs.Conditions.{Condition, _gives_, FirstOf, OneOf}
 use Rattle.limits.specs.declared.Table.{Table}
+use Rattle.limits.specs.Refusals.{Admitted}
 use Rattle.phases.specs.ByPhase.{deviceLimitIn, phaseLimitIn, exIn, deIn}
 use Rattle.shift.specs.declared.State.{State}
 use Rattle.shift.specs.declared.Step.{Step}
 use Rattle.shift.specs.Refusals.{codeOf, amountOf, NoCode, Malformed}
-use Rattle.limits.specs.Refusals.{Admitted}
 use Rattle.promises.specs.Allowed.{Listed, Shifting, Engine}
 use Rattle.promises.specs.Effects.{Effect}
 

@@ -1,7 +1,7 @@
 // The shift machine of document 01: one step on any state, any table, any code and any amount.
 ghost use mathlib.Core.Path.{_≡_};
-ghost use Rattle.shift.specs.States.{start};
 ghost use Rattle.checks.specs.Checks.{first};
+ghost use Rattle.shift.specs.States.{start};
 ghost use Rattle.shift.specs.Steps.{allowed};
 ghost use Rattle.shift.specs.Answers.{plain, ticking, reading, refusal, checksOf, led, refused, answer, judged, stepOn};
 use limits::Table;

@@ -10,6 +10,7 @@ pub mod ReadLaws
 pub mod WholeLaws
 pub mod RoundTrip
 pub mod RoundTripCalls
+pub mod GoodFiles
 pub mod FileRefusals
 pub mod RecordRefusals
 pub mod WriteRefusals

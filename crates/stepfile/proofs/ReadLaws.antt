@@ -75,13 +75,13 @@ module _ (a b c d : ℕ) (rs : List Reading) where
   its-refusal WrongAmount h = absurd h
 
 -- ---- as many as there are four bytes
-pub counted : {A : Type 0} (take : ℕ → ℕ → ℕ → ℕ → A) (n : ℕ) (l : List ℕ) → length l ≡ 4 * n → length (everyFour take l) ≡ n
-counted take n [] e = omega arith
-counted take n (a ∷ []) e = absurd (omega arith)
-counted take n (a ∷ b ∷ []) e = absurd (omega arith)
-counted take n (a ∷ b ∷ c ∷ []) e = absurd (omega arith)
-counted take zero (a ∷ b ∷ c ∷ d ∷ l) e = absurd (omega arith)
-counted take (suc n) (a ∷ b ∷ c ∷ d ∷ l) e = ap suc (counted take n l (omega arith))
+pub counted : {A : Type 0} (each : ℕ → ℕ → ℕ → ℕ → A) (n : ℕ) (l : List ℕ) → length l ≡ 4 * n → length (everyFour each l) ≡ n
+counted each n [] e = omega arith
+counted each n (a ∷ []) e = absurd (omega arith)
+counted each n (a ∷ b ∷ []) e = absurd (omega arith)
+counted each n (a ∷ b ∷ c ∷ []) e = absurd (omega arith)
+counted each zero (a ∷ b ∷ c ∷ d ∷ l) e = absurd (omega arith)
+counted each (suc n) (a ∷ b ∷ c ∷ d ∷ l) e = ap suc (counted each n l (omega arith))
 
 -- ---- the records of a part that all mean steps
 one-written : (a b c d : ℕ) (l : List ℕ) → a < 256 → c < 256 → b ≡ 0 → bytesOf (a ∷ (c + 256 * d) ∷ []) ++ l ≡ a ∷ b ∷ c ∷ d ∷ l

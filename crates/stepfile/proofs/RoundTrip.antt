@@ -136,8 +136,8 @@ module _ (f : List ℕ) (b : Bytes f) (e : refusalOf f .number ≡ 0) (all : All
   entries-count = ap length entries-fit-in ∙ length-u16sAt f 12 (tableEntries f)
 
   -- of each record one
-  counted-in : (take : ℕ → ℕ → ℕ → ℕ → ℕ) → length (everyFour take (recordBytes f)) ≡ recordCount f
-  counted-in take = ap (λ l. length (everyFour take l)) records-in ∙ counted take (recordCount f) records records-length
+  counted-in : (each : ℕ → ℕ → ℕ → ℕ → ℕ) → length (everyFour each (recordBytes f)) ≡ recordCount f
+  counted-in each = ap (λ l. length (everyFour each l)) records-in ∙ counted each (recordCount f) records records-length
 
   codes-count : length (codesIn f) ≡ recordCount f
   codes-count = counted-in _

@@ -11,11 +11,11 @@ recordOf code middle low high = reading code middle (low + 256 * high)
 
 -- what is taken of each four bytes, one record after the other; fewer than four that are left over are no record
 abbrev pub everyFour : {A : Type 0} → (ℕ → ℕ → ℕ → ℕ → A) → List ℕ → List A
-everyFour take [] = []
-everyFour take (a ∷ []) = []
-everyFour take (a ∷ b ∷ []) = []
-everyFour take (a ∷ b ∷ c ∷ []) = []
-everyFour take (a ∷ b ∷ c ∷ d ∷ rest) = take a b c d ∷ everyFour take rest
+everyFour each [] = []
+everyFour each (a ∷ []) = []
+everyFour each (a ∷ b ∷ []) = []
+everyFour each (a ∷ b ∷ c ∷ []) = []
+everyFour each (a ∷ b ∷ c ∷ d ∷ rest) = each a b c d ∷ everyFour each rest
 
 -- what the records of a part mean
 abbrev pub recordsIn : List ℕ → List Reading

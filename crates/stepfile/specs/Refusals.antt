@@ -1,5 +1,6 @@
 -- Document 01, "Step files, parts and writing" and "Numbers for what is refused", a second time: when a file and a write are refused,
--- as statements, and what a refused write leaves. It shares no definition with Bytes.antt, Files.antt, Records.antt and Writing.antt.
+-- as statements, what a good file holds, and what a refused write leaves. It shares no definition with Bytes.antt, Files.antt,
+-- Records.antt and Writing.antt.
 -- Assumes nothing.
 use mathlib.Core.Path.{_≡_}
 use mathlib.Core.Logic.{_⊎_}
@@ -8,9 +9,10 @@ use Prim.Native.Nat.{ℕ, _+_, _*_, _≤_, _<_}
 use lib.ListN.{length, getD}
 use Rattle.checks.specs.Conditions.{Condition, _gives_, _else_, FirstOf, OneOf}
 use Rattle.limits.specs.declared.Table.{Table}
-use Rattle.limits.specs.Limits.{default}
-use Rattle.limits.specs.Refusals.{broken, Admitted}
-use Rattle.shift.specs.Refusals.{refusals}
+use Rattle.limits.specs.Refusals.{byDefault, Admitted, broken}
+use Rattle.shift.specs.declared.Reading.{Reading}
+use Rattle.shift.specs.declared.Reading.the-variants.{WrongCode}
+use Rattle.shift.specs.Refusals.{refusals, Reads}
 use Rattle.stepfile.specs.declared.write.Wish.{Wish}
 use Rattle.stepfile.specs.declared.write.Wish.the-variants.{Given, NoTable}
 
@@ -69,6 +71,20 @@ pub record FileAnswers (f : List ℕ) (number rule : ℕ) : Type 0 where
   pub numbers : number ≤ 4
   pub rule-for : RuleFor (tableBehind f) number rule
 
+-- where the record at an index stands: behind the header, the table's entries and the records before it
+abbrev pub place : List ℕ → ℕ → ℕ
+place f index = 12 + 2 * bits16 f 2 + 4 * index
+
+-- a good file with this table and these records: as many as the header says, and each is what its code, its middle byte and its
+-- amount mean
+pub record FileHolds (f : List ℕ) (t : Table) (records : List Reading) : Type 0 where
+  pub without-entries : bits16 f 2 ≡ 0 → t ≡ byDefault
+  pub with-entries : bits16 f 2 ≡ 18 → t ≡ tableBehind f
+  pub count : length records ≡ bits32 f 8
+  pub each :
+      (i : ℕ) → i < length records
+      → Reads (getD f (place f i) 0) (getD f (place f i + 1) 0) (bits16 f (place f i + 2)) (getD records i WrongCode)
+
 -- ---- a write
 
 -- the record at the index is refused with the number, 5 or 6, and every record before it reads; a code and an amount have no middle byte
@@ -80,7 +96,7 @@ pub record WrongAt (codes amounts : List ℕ) (number index : ℕ) : Type 0 wher
 -- the wish for no table means the default
 abbrev pub tableFor : Wish → Table
 tableFor (Given t) = t
-tableFor NoTable = default
+tableFor NoTable = byDefault
 
 abbrev pub bytesFor : Wish → ℕ → ℕ
 bytesFor (Given t) records = 12 + 2 * 18 + 4 * records

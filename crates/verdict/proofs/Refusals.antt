@@ -1,12 +1,13 @@
 -- Judging a file and laying its line answer by the first number whose condition holds, in the words of specs/Refusals.antt; with 1 to 4
 -- the index is 0 and the state the start, and a line that does not fit changes no byte.
 -- Assumes nothing.
-use mathlib.Core.Path.{_≡_, refl, sym, ap, subst}
+use mathlib.Core.Path.{_≡_, refl, sym, ap, subst, _∙_}
 use mathlib.Core.Logic.{_⊎_, inl, ⊎-elim}
 use mathlib.Core.List.{List}
-use Prim.Native.Nat.{ℕ, _≤_}
+use Prim.Native.Nat.{ℕ, _+_, _≤_}
 use native.Mathlib.Omega.{arith}
 use lib.Dec.{eqb}
+use lib.ListN.{getD}
 use borrow.Author.Tests.{eqb-true, eqb-false}
 use denote.Ref.{now}
 use Rattle.checks.specs.Conditions.{FirstOf}
@@ -16,18 +17,20 @@ use Rattle.limits.specs.declared.Table.{Table}
 use Rattle.line.specs.Refusals.{LineAnswers}
 use Rattle.line.proofs.Refusals.{line-answers}
 use Rattle.promises.specs.Verdicts.{at}
+use Rattle.promises.proofs.OneStep.{refused-in-the-document's-words}
 use Rattle.shift.specs.declared.State.{State}
 use Rattle.shift.specs.declared.Reading.{Reading}
 use Rattle.shift.specs.declared.Reading.the-variants.{Means, WrongCode, WrongAmount}
 use Rattle.shift.specs.declared.Step.the-variants.{FromNeutral, GearToGear, ToNeutral, Deliver, DeviceGood, DeviceFailed, EngineWaits, Take, AskClutch, RaiseError, Finish, Tick}
 use Rattle.shift.specs.Answers.{checks, guard}
 use Rattle.stepfile.specs.Files.{tableIn, refusalOf, readingsOf}
-use Rattle.stepfile.specs.Refusals.{tableBehind, fileRefusals}
+use Rattle.stepfile.specs.Refusals.{bits16, tableBehind, fileRefusals, place}
+use Rattle.stepfile.proofs.GoodFiles.{read-there}
 use Rattle.stepfile.proofs.FileRefusals.{ruled, file-answers}
 use Rattle.verdict.specs.declared.Verdict.{Verdict}
 use Rattle.verdict.specs.Verdicts.{unread, verdictOf}
 use Rattle.verdict.specs.Said.{lineFor}
-use Rattle.verdict.specs.Refusals.{JudgeAnswers}
+use Rattle.verdict.specs.Refusals.{refusalsAt, JudgeAnswers}
 use Rattle.verdict.proofs.Judging.{unread-file, read-verdict}
 use Rattle.verdict.proofs.Verdicts.{read-files}
 use Rattle.verdict.proofs.judge.Reads as judge-reads
@@ -58,6 +61,7 @@ module _ (f : List ℕ) where
       record {
         unread = λ _. (file .first, refl, refl);
         read = ⊎-elim (λ z. absurd (n z)) (λ l. absurd (omega arith));
+        refused = λ l. absurd (omega arith);
         numbers = omega arith;
         rule-for = file .rule-for;
       }
@@ -78,11 +82,20 @@ module _ (f : List ℕ) where
     read-rule : verdict .rule ≡ 0
     read-rule = ap (λ (v : Verdict). v .rule) (sym (read-verdict f z))
 
+    refused-there : ¬ (verdict .number ≡ 0) → FirstOf (refusalsAt f (verdict .index) (verdict .state)) (verdict .number)
+    refused-there n =
+        let there = place f (verdict .index) in
+        let stop = read-files f z .refused n in
+        subst (FirstOf (refusalsAt f (verdict .index) (verdict .state)))
+        (ap (guard (tableIn f) (verdict .state)) (sym (read-there f z (verdict .index) (stop .0))) ∙ stop .1)
+        (refused-in-the-document's-words (tableIn f) (verdict .state) (getD f there 0) (getD f (there + 1) 0) (bits16 f (there + 2)))
+
     is-read : JudgeAnswers f verdict
     is-read =
         record {
           unread = λ h. ⊎-elim (λ e. absurd (omega arith)) (λ b. absurd (omega arith)) read-numbers;
           read = λ _. (subst (FirstOf (fileRefusals f)) z (file-answers f .first), read-files f z);
+          refused = λ l. refused-there (λ e. omega arith);
           numbers = ⊎-elim (λ e. omega arith) (λ b. b .1) read-numbers;
           rule-for =
               ruled (tableBehind f) (verdict .number) (verdict .rule)
