@@ -4,6 +4,7 @@ import struct
 from typing import Callable, NamedTuple, Tuple
 
 import files
+import m9
 import rules
 
 LONGEST_FIELD = 66_000
@@ -29,6 +30,13 @@ def write(wish, table, amounts, codes, buffer):
     return files.write(table if wish else None, codes, amounts, buffer)
 
 
+def manual(table, records):
+    """Both engines from their starts: the manual's, with its variables and their reading, and ours."""
+    number, rule, accepted, variables = files.run(m9.step, m9.START, table, records)
+    seen = m9.flags(variables), m9.times(variables), m9.reading(variables)
+    return number, rule, accepted, seen, files.run(rules.step, rules.START, table, records)
+
+
 class Kind(NamedTuple):
     """A kind of case: the parts in its field a, its other fields that hold a part each, and what answers it."""
 
@@ -36,6 +44,7 @@ class Kind(NamedTuple):
     in_a: Tuple[str, ...]
     others: str
     answer: Callable
+    unit: int = 1  # the length of field b is a multiple of this
 
 
 KINDS = {
@@ -47,6 +56,7 @@ KINDS = {
     6: Kind("line", (), "bc", files.lay_line),
     7: Kind("join", ("held", "offset"), "bc", join),
     8: Kind("write", ("wish", "table", "amounts"), "bc", write),
+    9: Kind("manual", ("table",), "b", manual, unit=files.RECORD.size),
 }
 NUMBERS = {kind.name: number for number, kind in KINDS.items()}
 
@@ -92,7 +102,7 @@ def parts_of(case):
                 return None
             parts.append(make(*layout.unpack_from(rest)))
             rest = rest[layout.size:]
-    if rest or any(getattr(case, field) for field in "bc" if field not in kind.others):
+    if rest or len(case.b) % kind.unit or any(getattr(case, field) for field in "bc" if field not in kind.others):
         return None
     return parts + [getattr(case, field) for field in kind.others]
 

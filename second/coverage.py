@@ -3,11 +3,13 @@
 from collections import Counter
 from typing import Dict, NamedTuple, Sequence, Set
 
+import m9
 from files import NO_ROOM, fours, judged, line, read, record
+from places import HOW, PLACES, place_of
 from rules import (
     ALLOWED, ASK_CLUTCH, ENGINE_PHASES, ERROR, GOOD, NOT_ADMITTED, NOT_ALLOWED, ORDERS, PAST_CLOCK, PAST_PHASE_LIMIT,
-    PAST_STAGE_LIMIT, PHASES, REQUESTS, SENT, START, SYNC, TAKE, TICK, TOO_EARLY, TOO_LATE, WORKING, ZERO_TORQUE,
-    earliest_clock, latest_clocks, slacks,
+    PAST_STAGE_LIMIT, PHASES, REQUESTS, SENT, START, SYNC, TAKE, TICK, TOO_EARLY, TOO_LATE, WORKING, WRONG_BOX,
+    ZERO_TORQUE, earliest_clock, latest_clocks, slacks,
 )
 
 # No walk takes too late: rules 2 and 3 see to that. No file holds ticks enough to pass the last clock.
@@ -19,6 +21,7 @@ ORDER_NAMES = tuple(order.name for order in ORDERS)
 ALL_RULES = set(range(1, 16))
 OTHER = "other"
 CODES = (*ALLOWED, OTHER)
+KEPT, PASSED, REFUSED = "just kept", "passed by one", "refused by it"
 
 
 def reachable(phase):
@@ -39,6 +42,18 @@ def step_numbers(code):
 def record_numbers(code):
     """The numbers that a record can give in a file that is read; its states are all listed, so a tick gives no 7."""
     return step_numbers(code) - {NOT_ADMITTED} - NEVER_IN_A_FILE - ({NOT_ALLOWED} if code == TICK else set())
+
+
+def manual_numbers(code):
+    """The numbers that a record can give in a list; the first may be refused for the table."""
+    return record_numbers(code) | {NOT_ADMITTED}
+
+
+def numbers_by_event():
+    """The rows of a grid of events and numbers; no record takes too late."""
+    own = {code: {WRONG_BOX} for code in REQUESTS}
+    own.update({ASK_CLUTCH: {TOO_EARLY}, TICK: {PAST_PHASE_LIMIT, PAST_STAGE_LIMIT}})
+    return {name: {0} | own.get(code, set()) for code, names in m9.NAMES_BY_CODE.items() for name in names}
 
 
 def numbers_by_code(numbers):
@@ -78,6 +93,7 @@ GRIDS = {
         "join": {0, 14, 15, 16},
         "join, held": {15},
         "write": {0, *range(2, 7), 15},
+        "manual": {0, *range(4, 14)} - NEVER_IN_A_FILE,
     }),
     "rules": Grid("rules that each function gave, 0 for an admitted table, and the nearest tables", range(16), {
         "admit": {0} | ALL_RULES,
@@ -86,6 +102,7 @@ GRIDS = {
         "read": ALL_RULES,
         "judge": ALL_RULES,
         "write": ALL_RULES,
+        "manual": ALL_RULES,
         "broken by one": ALL_RULES,
         "just kept": ALL_RULES,
     }),
@@ -102,6 +119,18 @@ GRIDS = {
         "limits just kept, or passed by one, in judged files",
         ORDER_NAMES,
         limits_by_order(never=("EX: passed", "last clock: kept", "last clock: passed")),
+    ),
+    "manual": Grid("numbers of the manual's engine in lists, by code", CODES, numbers_by_code(manual_numbers)),
+    "places": Grid("places of the manual's machine that lists reached: phases, or those that were left", HOW, PLACES),
+    "events": Grid(
+        "events of the manual's machine that were chosen, by the number that their guards on the box and on times gave",
+        (0, WRONG_BOX, TOO_EARLY, PAST_PHASE_LIMIT, PAST_STAGE_LIMIT),
+        {name: numbers_by_event()[name] for name in m9.EVENTS},
+    ),
+    "deadlines": Grid(
+        "guards of Tick_Tock",
+        (KEPT, PASSED, REFUSED),
+        {deadline.label: {KEPT, PASSED, REFUSED} for deadline in m9.M9.deadlines},
     ),
 }
 
@@ -206,6 +235,37 @@ def write_marks(answer, *_):
     yield from answer_marks("write", number, rule)
 
 
+def event_marks(table, variables, code, amount, number):
+    """The marks of the event that a record chooses, and of the guards of Tick_Tock that watch over it."""
+    if 0 < number <= NOT_ALLOWED:
+        return
+    yield "events", "Tick_Tock" if code == TICK else m9.M9.chosen(variables, code).name, number
+    for deadline, excess in m9.M9.excesses(table, variables, amount) if code == TICK else ():
+        if (number, excess) == (0, 0):
+            yield "deadlines", deadline.label, KEPT
+        if excess > 0 and number == deadline.refusal():
+            yield "deadlines", deadline.label, REFUSED
+            if excess == 1:
+                yield "deadlines", deadline.label, PASSED
+
+
+def manual_marks(answer, table, records):
+    """The marks of the manual's engine, and of each record that it is advanced by."""
+    number, rule, *_ = answer
+    yield from answer_marks("manual", number, rule)
+    variables = m9.START
+    yield ("places", *place_of(variables))
+    for four in fours(records):
+        code, amount, middle = record(four)
+        number, _, after = m9.step(table, variables, code, amount, middle)
+        yield "manual", number, code if code in ALLOWED else OTHER
+        yield from event_marks(table, variables, code, amount, number)
+        yield ("places", *place_of(after))
+        variables = after
+        if number:
+            return
+
+
 MARKS = {
     "admit": admit_marks,
     "step": step_marks,
@@ -215,6 +275,7 @@ MARKS = {
     "line": line_marks,
     "join": join_marks,
     "write": write_marks,
+    "manual": manual_marks,
     "bad": lambda _: (),
 }
 

@@ -82,6 +82,17 @@ def advance(table, state, four):
     return step(table, state, *record(four))
 
 
+def run(engine, start, table, records):
+    """An engine over records, up to the first that it refuses: number, rule, records accepted and where it came to."""
+    number, rule, accepted, reached = 0, 0, 0, start
+    for four in fours(records):
+        number, rule, reached = engine(table, reached, *record(four))
+        if number:
+            break
+        accepted += 1
+    return number, rule, accepted, reached
+
+
 def judged(table, records):
     """Each record's number and the state after it, from the start state to the first that is refused."""
     state = START

@@ -5,11 +5,12 @@ from itertools import islice
 
 import file_cases
 import join_cases
+import manual_cases
 import step_cases
 import write_cases
 from search import NotFound
 
-MAKERS = step_cases, file_cases, join_cases, write_cases
+MAKERS = step_cases, file_cases, join_cases, write_cases, manual_cases
 
 
 def other_lengths(case):

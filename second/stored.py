@@ -6,7 +6,7 @@ from corpus import KINDS, cases_in, packed, worked
 from coverage import marks, possible_cells
 from generator import cases
 from program import ROOT
-from versions import WRONG_VERSIONS, cases_needed, loaded
+from versions import WRONG_VERSIONS, cases_needed, concerned, loaded
 
 STORED = ROOT / "crates" / "vectors"
 
@@ -40,9 +40,10 @@ def sharpened(chosen, small):
     chosen, small = ([(case, worked(case).line()) for case in each] for each in (chosen, small))
     for wrong in WRONG_VERSIONS:
         version = loaded("corpus", wrong).worked
-        if not cases_needed(version, chosen):
-            needed = cases_needed(version, small)
-            chosen += small[needed - 1:needed] if needed else []
+        if not cases_needed(version, concerned(wrong, chosen)):
+            tellers = concerned(wrong, small)
+            needed = cases_needed(version, tellers)
+            chosen += tellers[needed - 1:needed] if needed else []
     return chosen
 
 

@@ -193,9 +193,10 @@ class Corpus(unittest.TestCase):
             ("line", b"file", b"buffer"),
             ("join", 1, 2, b"part", b"buffer"),
             ("write", 1, DEFAULT, [3, 4], b"codes", b"buffer"),
+            ("manual", DEFAULT, b"12345678"),
         ]
         cases = [case_of(*case) for case in given]
-        self.assertEqual([len(case.a) for case in cases], [36, 61, 60, 0, 0, 0, 16, 45])
+        self.assertEqual([len(case.a) for case in cases], [36, 61, 60, 0, 0, 0, 16, 45, 36])
         self.assertEqual([parts_of(case) for case in cases], [list(case[1:]) for case in given])
         self.assertEqual(list(cases_in(b"".join(map(packed, cases)))), cases)
 
@@ -208,6 +209,12 @@ class Corpus(unittest.TestCase):
             (case_of("line", b"", b"\xab"), "line 15 0 ab"),
             (case_of("join", 0, 0, b"\x01", b"\xff\xff"), "join 0 1 01ff"),
             (case_of("write", 0, DEFAULT, [], b"", b""), "write 15 0 0 0 -"),
+            (case_of("manual", DEFAULT, b""), f"manual 0 0 0 01{'00' * 63}{' 0' * 34}{' 0' * 7} 0 0 0{' 0' * 8}"),
+            (case_of("manual", DEFAULT._replace(ChangeDL=1404), b"\x01\0\0\0"),
+             f"manual 4 14 0 01{'00' * 63}{' 0' * 34}{' 0' * 7} 4 14 0{' 0' * 8}"),
+            (case_of("manual", DEFAULT, b"\x0c\0\x07\0\x01\0\0\0\x0c\0\x02\0\x01\0\0\0"),
+             f"manual 7 0 3 0101{'00' * 62} 9 7{' 0' * 32} 9 0 1 1 7 7 7 7 0 3 9 0 1 7 1 7 7 0"),
+            (case_of("manual", DEFAULT, b"123"), "bad"),
             (Case(1, bytes(35)), "bad"),
             (Case(8, bytes(38)), "bad"),
             (Case(5, b"", b"", b"x"), "bad"),
@@ -218,5 +225,5 @@ class Corpus(unittest.TestCase):
     def test_what_ends_a_run(self):
         good = case_of("admit", DEFAULT)
         too_long = bytes((4, 0, 0, 0, 0)) + (66_001).to_bytes(4, "little") + bytes(4 + 66_001)
-        for end in (b"\x01", packed(Case(9)), packed(Case(0)), packed(good)[:-1], too_long):
+        for end in (b"\x01", packed(Case(10)), packed(Case(0)), packed(good)[:-1], too_long):
             self.assertEqual(list(cases_in(packed(good) + end)), [good, None])

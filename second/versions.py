@@ -8,10 +8,15 @@ from pathlib import Path
 from types import ModuleType
 from typing import NamedTuple
 
+from corpus import NUMBERS
 from wrong_files import WRONG_FILES
+from wrong_m9 import WRONG_M9
 from wrong_rules import WRONG_RULES
 
 HERE = Path(__file__).resolve().parent
+
+MANUAL = NUMBERS["manual"]
+MANUAL_FILES = {file for _, file, *_ in WRONG_M9}
 
 
 class Wrong(NamedTuple):
@@ -27,6 +32,7 @@ WRONG_VERSIONS = [
     *(Wrong(what, "rules.py", old, new) for what, old, new in WRONG_RULES),
     *(Wrong(what, "files.py", old, new) for what, old, new in WRONG_FILES),
     Wrong("the wish for none crossed", "corpus.py", "table if wish else None", "None if wish else table"),
+    *(Wrong(*wrong) for wrong in WRONG_M9),
 ]
 
 
@@ -36,7 +42,7 @@ class NoSuchPlace(Exception):
 
 def wrong_source(wrong):
     """The file's source with the new text in the place of the old."""
-    source = (HERE / wrong.file).read_text()
+    source = (HERE / wrong.file).read_text(encoding="utf-8")
     places = source.count(wrong.old)
     if places != 1:
         raise NoSuchPlace(f"in {wrong.file} {wrong.old!r} stands {places} times")
@@ -57,6 +63,13 @@ def loaded(name, wrong=None):
         for name in ours & sys.modules.keys():
             del sys.modules[name]
         sys.modules.update(in_use)
+
+
+def concerned(wrong, answered):
+    """The cases that the wrong version can show in, each with its line: of its machine, those of manual alone."""
+    if wrong.file not in MANUAL_FILES:
+        return answered
+    return [(case, line) for case, line in answered if case and case.kind == MANUAL]
 
 
 def cases_needed(worked, answered):

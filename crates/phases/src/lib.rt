@@ -4,17 +4,17 @@ ghost use Rattle.phases.specs.Phases.{orderOf, nextOf, clutchOf, deviceL
 use limits::Table;
 
 // The orders, numbered as the entries of their device limits.
-const SYNC: u8 = 1;
+pub const SYNC: u8 = 1;
 
 pub const ZERO_TORQUE: u8 = 2;
 
-const OPEN: u8 = 3;
+pub const OPEN: u8 = 3;
 
-const CLOSE: u8 = 4;
+pub const CLOSE: u8 = 4;
 
-const SET: u8 = 5;
+pub const SET: u8 = 5;
 
-const RELEASE: u8 = 6;
+pub const RELEASE: u8 = 6;
 
 // The next phase when taken, by phase; 0 where there is none.
 const NEXT: [u8; 24] = [

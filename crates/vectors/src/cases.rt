@@ -6,6 +6,7 @@ ghost use lib.ListN.{length};
 ghost use Rattle.io.specs.Counts.{Counts};
 ghost use Rattle.vectors.specs.Cases.{sized};
 use crate::answers;
+use crate::engines;
 use crate::fields::u32_at;
 use crate::text::write_part;
 use libc::STDIN_FILENO;
@@ -13,9 +14,9 @@ use libc::STDOUT_FILENO;
 
 const END: u8 = 0;
 
-const NO_CASE: u8 = 9;
+const NO_CASE: u8 = 10;
 
-// A case's kind, 1 to 8, and the lengths of its fields; or that the input has ended, or that no case is there.
+// A case's kind, 1 to 9, and the lengths of its fields; or that the input has ended, or that no case is there.
 struct Head {
     kind: u8,
     a: usize,
@@ -61,7 +62,7 @@ fn head_of(bytes: &[u8]) -> Head
     let a = u32_at(bytes, 1);
     let b = u32_at(bytes, 5);
     let c = u32_at(bytes, 9);
-    if (kind < 1) | (8 < kind) | (66000 < a) | (66000 < b) | (66000 < c) {
+    if (kind < 1) | (9 < kind) | (66000 < a) | (66000 < b) | (66000 < c) {
         return without_fields(NO_CASE);
     }
     Head {
@@ -120,16 +121,17 @@ fn is_sized(kind: u8, a: usize, b: usize, c: usize) -> bool
         6 => a == 0,
         7 => a == 16,
         8 => (37 <= a) & (a <= 66000) & (a % 4 == 1),
+        9 => (a == 36) & (b % 4 == 0) & (c == 0),
         _ => false,
     }
 }
 
 // Each word stands at eight times its kind.
 fn word(kind: u8) {
-    if 8 < kind {
+    if 9 < kind {
         return;
     }
-    let words = b"        admit   step    advance read    judge   line    join    write   ";
+    let words = b"        admit   step    advance read    judge   line    join    write   manual  ";
     let from = 8 * (kind as usize);
     write_part(words, from, from + letters(kind));
 }
@@ -142,6 +144,7 @@ fn letters(kind: u8) -> usize
         3 => 7,
         5 => 5,
         8 => 5,
+        9 => 6,
         _ => 4,
     }
 }
@@ -159,6 +162,7 @@ fn print_rest(kind: u8, a: &[u8], b: &[u8], c: &mut [u8])
         6 => answers::line(b, c),
         7 => answers::join(a, b, c),
         8 => answers::write(a, b, c),
+        9 => engines::manual(a, b),
         _ => {}
     }
 }

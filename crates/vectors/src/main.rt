@@ -1,6 +1,7 @@
 // The test program: reads cases from standard input and prints the line of each, as docs/CORPUS.md says.
 mod answers;
 mod cases;
+mod engines;
 mod fields;
 mod text;
 

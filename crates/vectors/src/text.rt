@@ -11,7 +11,7 @@ pub(crate) fn number(n: usize) {
     io::print_decimal(STDOUT_FILENO, n as u64);
 }
 
-fn number32(n: u32) {
+pub(crate) fn number32(n: u32) {
     number(n as usize);
 }
 

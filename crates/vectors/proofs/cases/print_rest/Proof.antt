@@ -51,6 +51,12 @@ write-requires c κs =
     let s = c .before .before .before .before .before in
     amounts _ (rw (c .before .match .keys8) at (s .pre))
 
+manual-requires : tie.Need-manual-requires
+manual-requires c κs =
+    let s = c .before .before .before .before in
+    let f = s .args in
+    alone (length (now (f .a))) (length (now (f .b)) % 4) (length (now (f .c))) 36 (rw (c .match .keys9) at (s .pre))
+
 pub print-rest-spec : {M : Type 1} → statement M
 print-rest-spec =
     tie.close
@@ -63,6 +69,7 @@ print-rest-spec =
     (λ c κs. tt)
     join-requires
     write-requires
+    manual-requires
     (λ c. tt)
     (λ c. tt)
     (λ c. tt)
@@ -73,5 +80,6 @@ print-rest-spec =
     (λ c. search needs)
     (λ c. tt)
     (λ c. search needs)
+    (λ c. tt)
     (λ c. tt)
     (λ c. tt))

@@ -1,0 +1,28 @@
+-- Any two outcomes that a public contract of this crate allows are equal.
+-- Assumes nothing.
+use mathlib.Core.Path.{sym, _∙_}
+use Rattle.checks.specs.Determined.{Determined}
+use Rattle.manual.proofs.Variables.initialisation.Reads as initialisation-reads
+use Rattle.manual.proofs.on_side.Reads as on-side-reads
+use Rattle.manual.proofs.late.Reads as late-reads
+use Rattle.manual.proofs.early.Reads as early-reads
+use Rattle.manual.proofs.in_time.Reads as in-time-reads
+use Rattle.manual.proofs.or_else.Reads as or-else-reads
+
+pub initialisation : Determined initialisation-reads.Post
+initialisation κs a x y at at′ p q = p ∙ sym q
+
+pub on-side : Determined on-side-reads.Post
+on-side κs a x y at at′ p q = p ∙ sym q
+
+pub late : Determined late-reads.Post
+late κs a x y at at′ p q = p ∙ sym q
+
+pub early : Determined early-reads.Post
+early κs a x y at at′ p q = p ∙ sym q
+
+pub in-time : Determined in-time-reads.Post
+in-time κs a x y at at′ p q = p ∙ sym q
+
+pub or-else : Determined or-else-reads.Post
+or-else κs a x y at at′ p q = p ∙ sym q

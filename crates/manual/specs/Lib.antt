@@ -1,0 +1,13 @@
+pub mod Names
+pub mod Variables
+pub mod Events
+pub mod Requests
+pub mod FromNeutral
+pub mod ToNeutral
+pub mod GearToGear
+pub mod Devices
+pub mod Final
+pub mod Ticks
+pub mod Steps
+pub mod Answers
+pub mod Runs

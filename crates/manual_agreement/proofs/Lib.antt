@@ -1,0 +1,5 @@
+pub mod Every
+pub mod Joined
+pub mod Readings
+pub mod Agreement
+pub mod Calls

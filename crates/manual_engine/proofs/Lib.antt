@@ -1,0 +1,3 @@
+pub mod ChainLaws
+pub mod AnswerLaws
+pub mod Determined

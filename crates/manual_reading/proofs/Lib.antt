@@ -1,0 +1,3 @@
+pub mod PhaseLaws
+pub mod Readings
+pub mod Determined

@@ -1,0 +1,2 @@
+pub mod TickLaws
+pub mod Determined

@@ -1,0 +1,274 @@
+"""Tests of the manual's machine m9: what is printed, what is settled, its steps and its reading, beside the rules."""
+
+import random
+import unittest
+
+import m9
+import rules
+from files import run
+from m9 import BOOLS, EVENTS, INITIALISATION, LIMITS, M9, NAMES_BY_CODE, NATURALS, ORDERS, START, Machine, reading
+from places import PLACES, place_of, ways
+from reached import SEARCHED, first_change, reached, stop
+from records import LISTED, good_amount, packed_steps
+from rules import DEFAULT, LAST_CLOCK, PHASES, Table
+from settlements import ADDED, SETTLEMENTS
+from tables import good_table
+from test_files import K1, lists
+from walks import SHIFTS, any_walk, lead, mixed, timed
+
+
+def steps(text):
+    """The steps of a run, where tN is a tick."""
+    codes, amounts = lists(text)
+    return list(zip(codes, amounts))
+
+
+def ran(text, machine=M9, table=DEFAULT):
+    """Number, records accepted and variables of a run."""
+    number, _, accepted, variables = run(machine.step, START, table, packed_steps(steps(text)))
+    return number, accepted, variables
+
+
+def without(event, label):
+    """The machine with one guard as printed."""
+    off = [settlement for settlement in SETTLEMENTS if (settlement.event, settlement.label) == (event, label)]
+    assert len(off) == 1
+    return Machine(off)
+
+
+class AsPrinted(unittest.TestCase):
+    def test_counts(self):
+        printed = [guard for event in EVENTS.values() for guard in event.guards if guard.label != ADDED]
+        self.assertEqual((len(START), len(BOOLS), len(NATURALS)), (98, 64, 34))
+        self.assertEqual((len(EVENTS), len(printed), len(INITIALISATION)), (65, 272, 98))
+        self.assertEqual(sum(len(event.actions) for event in EVENTS.values()), 143)
+        self.assertEqual([len(EVENTS["Tick_Tock"].guards), len(EVENTS["FINAL"].actions)], [55, 42])
+
+    def test_labels_count_on(self):
+        for event in EVENTS.values():
+            guards = [guard.label for guard in event.guards if guard.label != ADDED]
+            self.assertEqual(guards, [f"grd{number}" for number in range(1, len(guards) + 1)])
+            self.assertEqual([action.label for action in event.actions],
+                             [f"act{number}" for number in range(1, len(event.actions) + 1)])
+
+    def test_initialisation_sets_each_variable_once(self):
+        self.assertEqual(sorted(action.variable for action in INITIALISATION), sorted(START))
+        self.assertEqual([name for name in BOOLS if START[name]], ["isNeu"])
+        self.assertEqual({START[name] for name in NATURALS}, {0})
+
+    def test_final_clears_flags_and_no_error(self):
+        kept = {"isNeu", *(name for name in BOOLS if name.startswith("Error_"))}
+        self.assertEqual(len(kept), 22)
+        self.assertEqual({action.variable for action in EVENTS["FINAL"].actions}, set(BOOLS) - kept)
+        self.assertEqual({action.value for action in EVENTS["FINAL"].actions}, {"FALSE"})
+
+    def test_names_in_formulas_are_variables_and_limits(self):
+        for machine in (M9, Machine(SETTLEMENTS)):
+            events = sum(machine.events.values(), [])
+            for needs in [event.flags for event in events] + [deadline.flags for deadline in machine.deadlines]:
+                self.assertLessEqual({*needs.up, *needs.down, *sum(needs.either, ())}, set(BOOLS) - {"isNeu"})
+            for needs in [event.box for event in events]:
+                self.assertLessEqual({*needs.up, *needs.down, *sum(needs.either, ())}, {"isNeu"})
+            bounds = [bound for event in events for bound in event.bounds]
+            for bound in bounds + [deadline.bound for deadline in machine.deadlines]:
+                self.assertIn(bound.time, NATURALS)
+        self.assertEqual(set(LIMITS.values()), set(Table._fields))
+
+
+class Settled(unittest.TestCase):
+    def test_each_changes_a_guard(self):
+        self.assertEqual(len({settlement[:2] for settlement in SETTLEMENTS}), len(SETTLEMENTS))
+        changed = {(event.name, guard.label) for event in EVENTS.values() for guard in event.guards if guard.why}
+        self.assertEqual(changed, {settlement[:2] for settlement in SETTLEMENTS})
+        for event in EVENTS.values():
+            for guard in event.guards:
+                self.assertEqual(bool(guard.why), guard.printed != guard.stands)
+
+    def test_all_errors_ask_for_their_device_s_error(self):
+        for order in ORDERS.values():
+            if order.error():
+                *_, guard = EVENTS[order.error()].guards
+                self.assertEqual(guard.stands, f"{order.device.other} = TRUE")
+
+    def test_each_off_gives_what_is_printed(self):
+        self.assertEqual(ran("1 4 7 t151 9")[0], 0)
+        self.assertEqual(ran("1 4 7 t151 9", without("FromNeu_RequestOpenClutch", "grd4"))[0], 9)
+        self.assertEqual(ran("1 9")[0], 7)
+        self.assertEqual(ran("1 9", without("FromNeu_RequestOpenClutch", ADDED))[0], 9)
+        asked = "2 4 7 t251 9 4 5 8"
+        self.assertEqual(ran(f"{K1} {asked}")[0], 0)
+        self.assertEqual(ran(f"{K1} {asked}", without("NoNeu_OpenClutch_Releasing", "grd1"))[0], 7)
+        self.assertEqual(ran("1 4 5 8 4 6 10")[0], 0)
+        self.assertEqual(ran("1 4 5 8 4 6 10", without("Error_FromNeu_SetGear_NoClutch", "grd4"))[0], 7)
+        self.assertEqual(ran("1 4 7 t151 9 10")[0], 7)
+        self.assertEqual(ran("1 4 7 t151 9 10", without("Error_FromNeu_OpenClutch", ADDED))[0], 0)
+        self.assertEqual(ran("1 4 5 8 4 t300")[0], 0)
+        self.assertEqual(ran("1 4 5 8 4 t300", without("Tick_Tock", "grd46"))[0], 12)
+        set_order = "1 4 7 t151 9 4 5 8 t6"
+        self.assertEqual(ran(set_order)[0], 12)
+        self.assertEqual(ran(set_order, without("Tick_Tock", "grd47"))[0], 0)
+        close = f"{K1} 2 4 5 8 4 5 8 4 7 t151 9 4 5 8 4 5 8 t5"
+        self.assertEqual(ran(close)[0], 0)
+        self.assertEqual(ran(close, without("Tick_Tock", "grd35"))[0], 12)
+
+
+class Codes(unittest.TestCase):
+    def test_each_event_has_one_code(self):
+        self.assertEqual([len(NAMES_BY_CODE[code]) for code in LISTED], [1, 1, 1, 6, 6, 4, 2, 21, 4, 17, 1, 1])
+        self.assertEqual(sorted(name for names in NAMES_BY_CODE.values() for name in names), sorted(EVENTS))
+
+    def test_an_event_raises_the_flag_that_it_is_named_by(self):
+        for event in EVENTS.values():
+            if event.name not in ("FINAL", "Tick_Tock"):
+                self.assertEqual((event.actions[0].variable, event.actions[0].value), (event.name, "TRUE"))
+
+    def test_orders_are_the_phases(self):
+        by_entering = {order.entering: phase for phase, order in ORDERS.items()}
+        for phase, order in ORDERS.items():
+            self.assertEqual(by_entering.get(order.taken, 22), PHASES[phase].when_taken)
+            self.assertEqual(by_entering.get(order.asked), PHASES[phase].when_asked)
+
+
+class KnownRuns(unittest.TestCase):
+    def test_k1_to_k11(self):
+        for text, number, accepted in (
+            (K1, 0, 12), ("", 0, 0), ("1 t6", 12, 1), ("1 t5", 0, 2), ("1 t5 4 t101", 12, 3), ("1 4 7 t150 9", 9, 4),
+            ("1 4 7 t151 9", 0, 5), ("1 4 7 t156", 11, 3), ("1 4 7 t155", 0, 4), ("2", 8, 0), ("1 1", 7, 1),
+            ("1 4 6", 7, 2), (f"{K1} 3 4 5 8 4 6 10 11", 7, 19),
+        ):
+            self.assertEqual(ran(text)[:2], (number, accepted))
+
+    def test_what_they_read_as(self):
+        self.assertEqual(reading(ran(K1)[2]), (410, 1, 0, 0, 0, 0, 0))
+        self.assertEqual(reading(ran("1 4 7 t151 9")[2]), (151, 0, 2, 1, 151, 151, 0))
+        self.assertEqual(reading(ran("t7 1 t2 4 7 t3")[2]), (12, 0, 1, 5, 7, 0, 7))
+        self.assertEqual(reading(ran(f"{K1} 3 4 5 8 4 6 10 11")[2]), (410, 1, 23, 0, 0, 0, 0))
+
+    def test_flags_that_are_up(self):
+        variables = ran("t9 1 t5 4 t9 5 t3 8 t1")[2]
+        self.assertEqual([name for name in BOOLS if variables[name]], [
+            "isNeu", "RequestFromNeu", "FromNeu_SyncSpeed", "Engine_SyncSpeed", "Engine_Request_SyncSpeed"])
+        kept = {name: variables[name] for name in NATURALS if variables[name]}
+        self.assertEqual(kept, {"time": 27, "RequestFromNeuT": 9, "Engine_Request_SyncSpeedT": 14,
+                                "Engine_SyncSpeedT": 23, "FromNeu_SyncSpeedT": 26})
+
+    def test_final_keeps_the_times(self):
+        variables = ran(K1)[2]
+        self.assertEqual([name for name in BOOLS if variables[name]], [])
+        self.assertEqual([name for name in NATURALS if variables[name]], [
+            "time", "FromNeu_SyncSpeedT", "Engine_Request_SyncSpeedT", "Gear_Request_SetT", "Engine_SyncSpeedT",
+            "Gear_SetT"])
+
+
+class Refusals(unittest.TestCase):
+    def test_table_then_code_then_amount_then_flags(self):
+        broken = DEFAULT._replace(ChangeDL=1404)
+        self.assertEqual(m9.step(broken, START, 99, 99), (4, 14, START))
+        unread = (0, 9), (13, 0), (8, 1), (8, 0, 1), (12, 0)
+        self.assertEqual([m9.step(DEFAULT, START, *given)[0] for given in unread], [5, 5, 6, 6, 6])
+        self.assertEqual([m9.step(DEFAULT, START, code, 0)[0] for code in range(1, 12)], [0, 8, 8] + [7] * 8)
+
+    def test_the_last_clock_comes_before_deadlines(self):
+        late = {**START, "time": LAST_CLOCK, "RequestFromNeu": True}
+        self.assertEqual(m9.step(DEFAULT, late, 12, 1)[0], 13)
+        self.assertEqual(m9.step(DEFAULT, {**late, "time": LAST_CLOCK - 1}, 12, 1)[0], 12)
+        asked = {**late, "time": LAST_CLOCK - 1, "Engine_Request_SyncSpeed": True, "Engine_WaitForSyncClutch": True}
+        self.assertEqual(m9.step(DEFAULT, asked, 12, 1)[0], 11)
+        self.assertEqual(m9.step(DEFAULT, {**START, "time": LAST_CLOCK - 1}, 12, 1)[0], 0)
+
+    def test_too_late_on_variables_that_no_run_reaches(self):
+        good = {**START, "RequestFromNeu": True, "Engine_Request_SyncSpeed": True, "Engine_SyncSpeed": True}
+        self.assertEqual([m9.step(DEFAULT, {**good, "time": time}, 8, 0)[0] for time in (150, 151)], [0, 10])
+
+    def test_what_is_refused_changes_nothing(self):
+        for text in ("1 4 7 t150 9", "1 t6", "2", "1 1"):
+            number, accepted, variables = ran(text)
+            self.assertNotEqual(number, 0)
+            self.assertEqual(variables, ran(" ".join(text.split()[:accepted]))[2])
+
+
+class Places(unittest.TestCase):
+    def test_there_are_110(self):
+        self.assertEqual(sum(map(len, PLACES.values())), 110)
+        self.assertEqual(set(ways()), {(phase, how) for phase, found in PLACES.items() for how in found})
+
+    def test_each_way_leads_to_the_same_flags_under_any_table_and_at_any_pace(self):
+        chance = random.Random(3)
+        for place, led in ways().items():
+            flags = set()
+            for way in led:
+                table = good_table(chance)
+                records = packed_steps(timed(table, way, mixed(chance)))
+                number, _, _, variables = run(m9.step, START, table, records)
+                self.assertEqual((number, place_of(variables)), (0, place))
+                flags.add(m9.flags(variables))
+            self.assertEqual(len(flags), 1)
+
+
+class TheSearch(unittest.TestCase):
+    def test_the_machine_itself_never_stops(self):
+        for table, ticks in SEARCHED.values():
+            for variables, _ in reached(M9, table, ticks):
+                given = [(code, 0) for code in LISTED if code != 12] + [(12, 1)]
+                self.assertIn(0, [m9.step(table, variables, *each)[0] for each in given])
+
+    def test_it_reaches_every_place(self):
+        for table, ticks in SEARCHED.values():
+            self.assertEqual({place_of(variables) for variables, _ in reached(M9, table, ticks)}, set(ways()))
+
+    def test_a_settlement_that_is_off_is_found(self):
+        table, ticks = SEARCHED["default"]
+        states = list(reached(M9, table, ticks))
+        delay, waits = SETTLEMENTS[:2]
+        self.assertEqual(first_change(delay, table, states), (tuple(steps("1 4 7 t151 9")), 9, 0))
+        self.assertEqual(stop(delay, table, ticks), tuple(steps("1 4 7 t155")))
+        self.assertEqual(first_change(waits, table, states), (((1, 0), (9, 0)), 9, 7))
+        self.assertIsNone(stop(waits, table, ticks))
+
+
+class BesideTheRules(unittest.TestCase):
+    def assert_same(self, table, variables, state, *given):
+        """A step has the same number and rule in both engines, and leads to the same in our terms."""
+        number, rule, variables = m9.step(table, variables, *given)
+        self.assertEqual((number, rule), rules.step(table, state, *given)[:2])
+        state = rules.step(table, state, *given)[2]
+        read = reading(variables)
+        self.assertEqual(read[:4], (state.clock, state.box, state.phase, state.stage))
+        if state.stage:
+            self.assertEqual((read.phase_time, read.request_time), (state.phase_time, state.request_time))
+            self.assertEqual(read.stage_time, state.stage_time if state.stage < 4 else 0)
+        else:
+            self.assertEqual(read[4:], (0, 0, 0))
+        return variables, state
+
+    def assert_walk(self, chance, table, walk):
+        """Both engines agree along a walk, and on a step of each code at each place of it."""
+        variables, state = START, rules.START
+        for given in walk:
+            for code in LISTED:
+                self.assert_same(table, variables, state, code, good_amount(chance, code))
+            self.assert_same(table, variables, state, chance.randint(0, 15), chance.randint(0, 1), chance.randint(0, 1))
+            variables, state = self.assert_same(table, variables, state, *given)
+
+    def test_every_shift(self):
+        chance = random.Random(0)
+        for request, shifts in SHIFTS.items():
+            for shift in shifts:
+                table = good_table(chance)
+                self.assert_walk(chance, table, timed(table, lead(chance, request) + shift, mixed(chance)))
+
+    def test_walks_by_chance(self):
+        chance = random.Random(1)
+        for _ in range(60):
+            table = good_table(chance)
+            self.assert_walk(chance, table, any_walk(chance, table))
+
+    def test_at_most_one_event_of_a_code_is_enabled_along_walks(self):
+        chance = random.Random(2)
+        for request, shifts in SHIFTS.items():
+            for shift in shifts:
+                variables = START
+                for given in timed(DEFAULT, lead(chance, request) + shift, mixed(chance)):
+                    for events in M9.events.values():
+                        self.assertLessEqual(sum(event.flags.met(variables) for event in events), 1)
+                    variables = m9.step(DEFAULT, variables, *given)[2]

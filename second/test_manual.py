@@ -1,0 +1,136 @@
+"""Tests of the comparison of the project's text with the manual's events: it fails where the text is edited."""
+
+import io
+import unittest
+from contextlib import redirect_stdout
+from importlib.machinery import SourceFileLoader
+from importlib.util import module_from_spec, spec_from_loader
+from pathlib import Path
+from unittest.mock import patch
+
+import m9_text
+import manual_page
+from m9_text import EVENT_CODE, NAMES, SPECS, STEPS, STRUCT, TICK_CODE, TICKS, VARIABLES
+from versions import HERE
+
+FROM, GEARS, DEVICES, FINAL = (f"{SPECS}/{name}.antt" for name in ("FromNeutral", "GearToGear", "Devices", "Final"))
+NEUTRAL_CODE, DEVICE_CODE = EVENT_CODE["manual_neutral"], EVENT_CODE["manual_devices"]
+
+IS_GOOD, LATE = "(v .«Engine_SyncSpeed» ! 7)  -- grd4", "(leb (v .time) (v .RequestFromNeuT + t .«sync_ex») ! 10)"
+WHY = "; 01: the delay of an engine that synchronizes; printed OpenClutch_Zero_DE"
+
+# A file, a text that stands in it, the text in its place, and what is said of it.
+EDITS = [
+    (FROM, IS_GOOD, "(v .«Engine_ZeroTorque» ! 7)  -- grd4", "FromNeu_SyncSpeed grd4"),
+    (FROM, IS_GOOD, "(v .«Engine_SyncSpeed» ! 8)  -- grd4", "FromNeu_SyncSpeed grd4"),
+    (FROM, IS_GOOD, "(not (v .«Engine_SyncSpeed») ! 7)  -- grd4", "FromNeu_SyncSpeed grd4"),
+    (FROM, "    ∷ (v .«Engine_SyncSpeed» ! 7)  -- grd4\n", "", "FromNeu_SyncSpeed grd4"),
+    (FROM, "t .«sync_de»", "t .«zero_de»", "FromNeu_RequestOpenClutch grd4"),
+    (FROM, WHY, "", "FromNeu_RequestOpenClutch grd4"),
+    (FROM, "printed OpenClutch_Zero_DE", "printed OpenClutch_Sync_DE", "FromNeu_RequestOpenClutch grd4"),
+    (FROM, LATE, "(leb (v .RequestFromNeuT + t .«sync_ex») (v .time) ! 10)", "FromNeu_SyncSpeed grd5"),
+    (FROM, "stamp Time.«FromNeu_OpenClutchT»", "stamp Time.«FromNeu_SyncSpeedT»", "FromNeu_OpenClutch act2"),
+    (FROM, "abbrev pub «FromNeu_CloseClutch»", "-- «FromNeu_CloseClutch»", "the events in order"),
+    (GEARS, "«NoNeu_RequestOpenClutch_Releasing» ! 7)  -- grd1; 01", "«NoNeu_OpenClutch_Releasing» ! 7)  -- grd1; 01",
+     "NoNeu_OpenClutch_Releasing grd1"),
+    (DEVICES, "v .RequestFromNeu || v .«NoNeu_Release_NoClutch»", "v .RequestFromNeu || v .«NoNeu_Release_Clutch»",
+     "Engine_Request_SyncSpeed grd1"),
+    (FINAL, "lower Flag.«Gear_Request_Set»", "raise Flag.«Gear_Request_Set»", "FINAL act42"),
+    (FINAL, "    ∷ lower Flag.«Gear_Request_Set»  -- act42\n", "", "FINAL: its labels in order"),
+    (FINAL, "-- act7\n", "-- act8\n", "FINAL: its labels in order"),
+    (TICKS, "(v .«NoNeu_SetGear_SettingClutchT») (t .«channel_dl»)", "(v .«FromNeu_SetGear_ClutchT») (t .«channel_dl»)",
+     "Tick_Tock grd35"),
+    (TICKS, "(t .«clutch_open_dl»)", "(t .«clutch_close_dl»)", "Tick_Tock grd52"),
+    (TICKS, "(v .«Engine_ZeroTorque» && not", "(v .«Engine_SyncSpeed» && not", "Tick_Tock grd27"),
+    (TICKS, "refusing 12 (stageLimits", "refusing 11 (stageLimits", "Tick_Tock grd23"),
+    (TICKS, "leb now 4294967295", "leb now 4294967294", "the clock's end"),
+    (TICKS, "scenario1 t v now ++ (scenario3 t v now", "scenario3 t v now ++ (scenario1 t v now",
+     "Tick_Tock: its labels in order"),
+    (STEPS, "    ∷ «Gear_Set» v\n", "", "step DeviceGood"),
+    (STEPS, "(takeToNeutral t v ∷ takeGearToGear t v ∷ [])", "(takeGearToGear t v ∷ takeToNeutral t v ∷ [])",
+     "step Take"),
+    (STEPS, "stepped t v Finish = FINAL v", "stepped t v Finish = RequestToNeu v", "step Finish"),
+    (NAMES, "flagNumber «Gear_Set» = 71", "flagNumber «Gear_Set» = 72", "number of Gear_Set"),
+    (NAMES, "  RequestNoNeu : Flag\n  RequestToNeu : Flag\n", "  RequestToNeu : Flag\n  RequestNoNeu : Flag\n",
+     "the flags in order"),
+    (VARIABLES, "flag v RequestNoNeu = v .RequestNoNeu", "flag v RequestNoNeu = v .RequestToNeu", "flag RequestNoNeu"),
+    (VARIABLES, "variables 0 true (λ (f", "variables 0 false (λ (f", "initialisation"),
+    (VARIABLES, "  RequestNoNeu = f RequestNoNeu;", "  RequestNoNeu = f RequestToNeu;", "the variables in order"),
+    (STRUCT, "    pub isNeu: bool,\n", "", "the variables in order"),
+    (STRUCT, "            isNeu: true,", "            isNeu: false,", "initialisation of isNeu"),
+    (NEUTRAL_CODE, "& v.Engine_SyncSpeed; // grd4", "& v.Engine_ZeroTorque; // grd4", "FromNeu_SyncSpeed grd4"),
+    (NEUTRAL_CODE, "table.sync_de); // grd4", "table.zero_de); // grd4", "FromNeu_RequestOpenClutch grd4"),
+    (NEUTRAL_CODE, "v.isNeu = false; // act2", "v.isNeu = true; // act2", "FromNeu_SetGear_NoClutch act2"),
+    (NEUTRAL_CODE, "pub fn FromNeu_SyncSpeed(", "pub fn FromNeu_Synchronized(",
+     "the events of manual_neutral in order"),
+    (DEVICE_CODE, "on_side(v.isNeu); // grd4", "on_side(!v.isNeu); // grd4", "RequestFromNeu grd4"),
+    (DEVICE_CODE, "    v.Gear_Request_Set = false; // act42\n", "", "FINAL act42"),
+    (TICK_CODE, "        table.gear_set_dl,", "        table.gear_release_dl,", "Tick_Tock grd55"),
+    (TICK_CODE, "        return 12;", "        return 11;", "Tick_Tock grd55"),
+    (TICK_CODE, "; 01: until the order is delivered; printed Gear_Set", "", "Tick_Tock grd46"),
+    (TICK_CODE, "        & grd21\n", "", "not all asked"),
+    (TICK_CODE, "fn phase_limits(", "fn limits_of_phases(", "can't be read"),
+    (STRUCT, "pub struct Variables {", "pub struct Flags {", "can't be read"),
+]
+
+
+def script():
+    """The program `manual` as a module."""
+    loader = SourceFileLoader("manual", str(HERE / "manual"))
+    module = module_from_spec(spec_from_loader("manual", loader))
+    loader.exec_module(module)
+    return module
+
+
+class ThePage(unittest.TestCase):
+    def setUp(self):
+        self.manual = script()
+        self.manual.parts = lambda _: {"events": manual_page.events_part()}
+
+    def checked(self, page):
+        """How many parts of a page fail, and what is printed."""
+        with patch.object(Path, "read_text", lambda *_, **__: page), redirect_stdout(io.StringIO()) as out:
+            _, failed = self.manual.checked("")
+        return failed, out.getvalue()
+
+    def test_a_row_that_is_edited_is_found(self):
+        page = manual_page.PAGE.read_text(encoding="utf-8")
+        self.assertEqual(self.checked(page)[0], 0)
+        failed, out = self.checked(page.replace("| FINAL | 11 |", "| FINAL | 12 |"))
+        self.assertEqual(failed, 1)
+        self.assertIn("events is not what is generated", out)
+
+    def test_a_page_without_the_place_is_found(self):
+        with self.assertRaisesRegex(manual_page.NotMade, "0 places for events"):
+            self.checked("no marker")
+
+    def test_flags_are_read_off_a_program_s_lines(self):
+        part = manual_page.flags_part("second/compare.py --answer -")
+        self.assertEqual(len(part.splitlines()), 2 + 110)
+        self.assertIn("| 1 working | isNeu, RequestFromNeu, Engine_Request_SyncSpeed |", part)
+        for wrong in ("true", "no/such/program", "bash -c 'second/compare.py --answer - | sed s/manual/bad/'"):
+            with self.assertRaises(manual_page.NotMade):
+                manual_page.flags_part(wrong)
+
+
+class TheText(unittest.TestCase):
+    @classmethod
+    def setUpClass(cls):
+        cls.texts, cls.manual = m9_text.files(), script()
+
+    def held(self, texts):
+        """How many facts are not as in the manual, and what is printed."""
+        with redirect_stdout(io.StringIO()) as out:
+            failed = sum(failed for _, failed in self.manual.held(texts))
+        return failed, out.getvalue()
+
+    def test_it_is_the_manual_s(self):
+        self.assertEqual(self.held(self.texts)[0], 0)
+
+    def test_edits_are_found(self):
+        for file, old, new, said in EDITS:
+            with self.subTest(file=file, new=new):
+                self.assertIn(old, self.texts[file])
+                failed, out = self.held({**self.texts, file: self.texts[file].replace(old, new, 1)})
+                self.assertGreater(failed, 0)
+                self.assertIn(said, out)

@@ -1,0 +1,191 @@
+"""Wrong versions of the manual's machine: what is wrong, the file, a text of it, and the text in its place."""
+
+import m9_printed
+from m9 import EVENTS, FINAL_FLAGS, Machine
+from settlements import ADDED, SETTLEMENTS
+
+PRINTED, SETTLED, M9 = "m9_printed.py", "settlements.py", "m9.py"
+DEADLINES = Machine(SETTLEMENTS).deadlines
+
+# The texts of the events, each as it stands in the file.
+TEXTS = {text.split("\n", 1)[0]: f"\n{text}\n" for text in m9_printed.EVENTS.strip().split("\n\n")}
+
+
+def clause(event, label):
+    """The lines of a guard or an action, as they stand in the file."""
+    lines = TEXTS[event].splitlines(keepends=True)
+    begin, = (place for place, line in enumerate(lines) if line.startswith(f"{label} : "))
+    end = next((place for place in range(begin + 1, len(lines)) if not lines[place].startswith(" ")), len(lines))
+    return "".join(lines[begin:end])
+
+
+def printed(what, event, old, new):
+    """A wrong version with a text of an event changed; in the event it stands once."""
+    assert TEXTS[event].count(old) == 1
+    return what, PRINTED, TEXTS[event], TEXTS[event].replace(old, new)
+
+
+# What is settled, back as it is printed.
+
+AS_PRINTED = [
+    ("FromNeu_RequestOpenClutch waits for Zero_DE", SETTLED, "OpenClutch_Sync_DE", "OpenClutch_Zero_DE"),
+    ("NoNeu_OpenClutch_Releasing grd1 contradicts grd2", SETTLED,
+     '"NoNeu_OpenClutch_Releasing", "grd1", "NoNeu_RequestOpenClutch_Releasing = TRUE"',
+     '"NoNeu_OpenClutch_Releasing", "grd1", "NoNeu_OpenClutch_Releasing = TRUE"'),
+    ("Error_FromNeu_SetGear_NoClutch asks for the gear to be set", SETTLED,
+     '"grd4", "Error_Gear_Set = TRUE"', '"grd4", "Gear_Set = TRUE"'),
+    ("grd35 from from neutral's time", SETTLED, "NoNeu_SetGear_SettingClutchT", "FromNeu_SetGear_ClutchT"),
+    ("grd46 until the gear is set", SETTLED,
+     "FromNeu_SyncSpeed = TRUE ∧ Gear_Request_Set = FALSE", "FromNeu_SyncSpeed = TRUE ∧ Gear_Set = FALSE"),
+    ("grd47 of to neutral", SETTLED,
+     'FromNeu_OpenClutch = TRUE ∧ Gear_Request_Set = FALSE "\n        "⇒ time + tick ≤ FromNeu_OpenClutchT',
+     'ToNeu_OpenClutch = TRUE ∧ Gear_Set = FALSE "\n        "⇒ time + tick ≤ ToNeu_OpenClutchT'),
+    *((f"{event} asks nothing of its device", SETTLED, f'    Settlement("{event}", ADDED, "{stands}", ', "    # (")
+      for event, label, stands, _ in SETTLEMENTS if label == ADDED),
+]
+
+
+# Guards of events. Left out is that an order was not left the other way: its device is good or at its other end, never
+# both, so that no list of records shows this guard.
+
+
+def dropped_guards():
+    """The first guard of each event dropped, and of each that ends a shift the one on its device."""
+    for event in EVENTS.values():
+        if event.name not in ("FINAL", "Tick_Tock", "NoNeu_OpenClutch_Releasing"):
+            yield printed(f"{event.name} without grd1", event.name, clause(event.name, "grd1"), "")
+    for name in FINAL_FLAGS:
+        yield printed(f"{name} asks nothing of its device", name, clause(name, "grd4"), "")
+
+
+def dropped_limits():
+    """The guard on the box or on a time of each event dropped, where a list can show it: no list takes too late."""
+    for event in EVENTS.values():
+        for guard in event.guards:
+            if guard.stands.startswith(("isNeu", "time ≥")) and not guard.why:
+                yield printed(f"{event.name} without {guard.label}, {guard.stands}", event.name,
+                              clause(event.name, guard.label), "")
+
+
+def own_flag():
+    """Events that happen twice: their own flag need not be down."""
+    for name in ("Engine_SyncSpeed", "Clutch_Open", "Gear_Release", "FromNeu_OpenClutch", "ToNeu_ZeroTorque",
+                 "NoNeu_ZeroTorque", "NoNeu_Release_Clutch", "Gear_Request_Set", "Clutch_Request_Close"):
+        label, = (guard.label for guard in EVENTS[name].guards if guard.printed == f"{name} = FALSE")
+        yield printed(f"{name} twice", name, clause(name, label), "")
+
+
+GUARDS = [*dropped_guards(), *dropped_limits(), *own_flag()]
+
+# Actions.
+
+
+def dropped_actions():
+    """Each action on a time or the box dropped, and each of FINAL."""
+    for event in EVENTS.values():
+        for label, variable, _ in event.actions if event.name != "Tick_Tock" else ():
+            if event.name == "FINAL" or variable != event.name:
+                yield printed(f"{event.name} leaves {variable} as it is", event.name, clause(event.name, label), "")
+
+
+ACTIONS = [
+    *dropped_actions(),
+    printed("Tick_Tock leaves the time as it is", "Tick_Tock", "time := time + tick", "time := time"),
+    printed("to neutral ends in gear", "ToNeu_CloseClutch", "isNeu := TRUE", "isNeu := FALSE"),
+    printed("Clutch_Open stamps the close's time", "Clutch_Open", "Clutch_OpenT := time", "Clutch_CloseT := time"),
+    ("FINAL changes the box", PRINTED, "act42 : Gear_Request_Set := FALSE\n",
+     "act42 : Gear_Request_Set := FALSE\nact43 : isNeu := TRUE\n"),
+    ("the box begins in gear", PRINTED, "  act2 : isNeu := TRUE", "  act2 : isNeu := FALSE"),
+    ("a flag begins up", PRINTED, "act86 : Gear_Request_Set := FALSE", "act86 : Gear_Request_Set := TRUE"),
+    ("two variables crossed in their order", PRINTED, "Clutch_Open Error_Clutch_Open Clutch_Close",
+     "Error_Clutch_Open Clutch_Open Clutch_Close"),
+    ("two times crossed in their order", PRINTED, "Engine_SyncSpeedT Engine_ZeroTorqueT Clutch_OpenT",
+     "Engine_ZeroTorqueT Engine_SyncSpeedT Clutch_OpenT"),
+]
+
+# The guards of Tick_Tock.
+
+OTHER_LIMITS = {
+    "Sync_DL": "Zero_DL", "Zero_DL": "Sync_DL", "OpenClutch_DL": "CloseClutch_DL", "CloseClutch_DL": "OpenClutch_DL",
+    "SetGear_DL": "Release_DL", "Release_DL": "SetGear_DL", "Engine_Sync_DL": "Engine_Zero_DL",
+    "Engine_Zero_DL": "Engine_Sync_DL", "Clutch_Open_DL": "Clutch_Close_DL", "Clutch_Close_DL": "Clutch_Open_DL",
+    "Gear_Release_DL": "Gear_Set_DL", "Gear_Set_DL": "Gear_Release_DL", "Channel_DL": "Sync_EX",
+}
+
+
+def off_deadlines():
+    """Guards of Tick_Tock, in turn with a neighbour's limit and with the time itself for the one it counts from."""
+    settled = {settlement.label for settlement in SETTLEMENTS if settlement.event == "Tick_Tock"}
+    for place, (label, _, (_, time, limit)) in enumerate(DEADLINES):
+        lines = clause("Tick_Tock", label)
+        if label in settled:
+            continue
+        if place % 2:
+            yield printed(f"{label} from the time itself", "Tick_Tock", lines, lines.replace(f" {time}", " time"))
+        else:
+            other = OTHER_LIMITS[limit]
+            yield printed(f"{label} with {other}", "Tick_Tock", lines, lines.replace(f" {limit}", f" {other}"))
+
+
+TICKS = [
+    *off_deadlines(),
+    ("grd22 gives 12", M9, '<= 22 else', '<= 21 else'),
+    ("grd23 gives 11", M9, '<= 22 else', '<= 23 else'),
+    ("11 before 12 by deadlines", M9, "(PAST_STAGE_LIMIT, PAST_PHASE_LIMIT):",
+     "(PAST_PHASE_LIMIT, PAST_STAGE_LIMIT):"),
+    ("equal passes a deadline", M9, "if excess > 0}", "if excess >= 0}"),
+    ("one past keeps a deadline", M9, "if excess > 0}", "if excess > 1}"),
+    ("a refused tick moves the manual's time", M9, "                return number, variables\n",
+     "                return number, done(self.tick_tock.actions, variables, amount)\n"),
+]
+
+# Choosing an event, and the order of refusals.
+
+STEPS = [
+    ("a code without its last event", M9, "event for event in self.events[code] if",
+     "event for event in self.events[code][:-1] if"),
+    ("asking a moment early", M9, "variables[\"time\"]) > 0:", "variables[\"time\"]) > 1:"),
+    ("asking a moment late", M9, "variables[\"time\"]) > 0:", "variables[\"time\"]) >= 0:"),
+    ("a wrong box gives 7", M9, "return WRONG_BOX", "return NOT_ALLOWED"),
+    ("too early gives 10", M9, "return TOO_EARLY if", "return TOO_LATE if"),
+    ("no event gives 8", M9, "if event else NOT_ALLOWED", "if event else WRONG_BOX"),
+    ("a refused event acts", M9, "variables if number else done(event.actions, variables)",
+     "done(event.actions, variables) if event else variables"),
+    ("the manual's engine knows no rule", M9, "return NOT_ADMITTED, rule, variables",
+     "return NOT_ADMITTED, 0, variables"),
+    ("the manual's engine takes any table", M9, "        rule = broken_rule(table)\n", "        rule = 0\n"),
+    ("the manual's engine does not look at the middle byte", M9, "unreadable(code, amount, middle)",
+     "unreadable(code, amount)"),
+    ("one flag of a group is not enough", M9, "all(any(map(value, group))", "all(all(map(value, group))"),
+    ("Zero_DE for Sync_DE in phase 10 too", M9, '"OpenClutch_Sync_DE": "Sync_DE"', '"OpenClutch_Sync_DE": "Zero_DE"'),
+    ("Sync_DE for Zero_DE", M9, '"OpenClutch_Zero_DE": "Zero_DE"', '"OpenClutch_Zero_DE": "Sync_DE"'),
+]
+
+# The reading.
+
+LEFT = "left = variables[order.taken] or order.asked and variables[order.asked]"
+PHASE_TIME, REQUEST_TIME = 'variables[f"{entering}T"]', 'variables[f"{request_of(phase)}T"]'
+
+READING = [
+    ("the box crossed", M9, 'NEUTRAL if variables["isNeu"] else IN_GEAR', 'IN_GEAR if variables["isNeu"] else NEUTRAL'),
+    ("error reads as done", M9, "box, ERROR, NONE)", "box, DONE, NONE)"),
+    ("done reads as at rest", M9, "box, DONE, NONE)", "box, AT_REST, NONE)"),
+    ("error with the box in gear alone", M9, "if error_phase(variables):",
+     'if error_phase(variables) and not variables["isNeu"]:'),
+    ("good reads as working", M9, "        return GOOD\n", "        return WORKING\n"),
+    ("sent reads as working", M9, "return WORKING if variables[device.request] else SENT", "return WORKING"),
+    ("working reads as sent", M9, "return WORKING if variables[device.request] else SENT", "return SENT"),
+    ("waiting reads as failed", M9, "return device.other_stage", "return FAILED"),
+    ("failed and waiting read as working", M9, "if variables[device.other]:", "if False:"),
+    ("the stage time of sent is the request's", M9, "{SENT: entering,", "{SENT: request_of(phase),"),
+    ("the stage time of working is the phase's", M9, "WORKING: device.request,", "WORKING: entering,"),
+    ("the stage time of good is that of working", M9, "GOOD: device.good}", "GOOD: device.request}"),
+    ("the stage time of failed is the phase's", M9, ".get(stage)", ".get(stage, entering)"),
+    ("the phase time reads the request's", M9, f"phase_time={PHASE_TIME}", f"phase_time={REQUEST_TIME}"),
+    ("the request time reads the phase's", M9, f"request_time={REQUEST_TIME}", f"request_time={PHASE_TIME}"),
+    ("to neutral reads gear to gear's request", M9, "for first in (1, 6, 17)", "for first in (1, 6)"),
+    ("an order is not left by asking", M9, LEFT, "left = variables[order.taken]"),
+    ("an order is not left by taking", M9, LEFT, "left = order.asked and variables[order.asked]"),
+]
+
+WRONG_M9 = [*AS_PRINTED, *GUARDS, *ACTIONS, *TICKS, *STEPS, *READING]
