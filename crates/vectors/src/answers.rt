@@ -6,9 +6,8 @@ use crate::fields::state_in;
 use crate::fields::table_at;
 use crate::fields::u32_at;
 use crate::fields::usize_at;
-use crate::text;
-use crate::text::number;
-use crate::text::number8;
+use printing::number;
+use printing::number8;
 use shift::Answer;
 use stepfile::write::Wish;
 use stepfile::write::Written;
@@ -36,15 +35,15 @@ pub(crate) fn advance(a: &[u8])
 fn print_answer(answer: Answer) {
     number8(answer.number);
     number8(answer.rule);
-    text::state(answer.state);
+    printing::state(answer.state);
 }
 
 pub(crate) fn read(file: &[u8]) {
     let refusal = stepfile::refused(file);
     number8(refusal.number);
     number8(refusal.rule);
-    text::table(stepfile::table(file));
-    text::bytes(stepfile::records(file));
+    printing::table(stepfile::table(file));
+    printing::bytes(stepfile::records(file));
 }
 
 pub(crate) fn judge(file: &[u8]) {
@@ -52,14 +51,14 @@ pub(crate) fn judge(file: &[u8]) {
     number8(verdict.number);
     number8(verdict.rule);
     number(verdict.index);
-    text::state(verdict.state);
+    printing::state(verdict.state);
 }
 
 pub(crate) fn line(file: &[u8], out: &mut [u8]) {
     let laid = verdict::line(file, out);
     number8(laid.number);
     number(laid.length);
-    text::bytes(out);
+    printing::bytes(out);
 }
 
 pub(crate) fn join(a: &[u8], part: &[u8], buffer: &mut [u8])
@@ -68,7 +67,7 @@ pub(crate) fn join(a: &[u8], part: &[u8], buffer: &mut [u8])
     let joined = transfer::join(buffer, usize_at(a, 0), usize_at(a, 8), part);
     number8(joined.number);
     number(joined.held);
-    text::bytes(buffer);
+    printing::bytes(buffer);
 }
 
 pub(crate) fn write(a: &[u8], codes: &[u8], out: &mut [u8])
@@ -77,7 +76,7 @@ pub(crate) fn write(a: &[u8], codes: &[u8], out: &mut [u8])
     let mut amounts = [0u32; 16491];
     let count = read_amounts(a, &mut amounts);
     print_written(stepfile::write::write(wish_in(a), codes, &amounts[..count], out));
-    text::bytes(out);
+    printing::bytes(out);
 }
 
 // The first byte is 0 for the wish for none.
@@ -95,4 +94,10 @@ fn print_written(written: Written) {
     number8(written.rule);
     number(written.index);
     number(written.length);
+}
+
+pub(crate) fn manual(a: &[u8], records: &[u8])
+    requires { ⌜ 36 ≤ length (now a) ⌝ }
+{
+    engines::print(table_at(a, 0), records);
 }

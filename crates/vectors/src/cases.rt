@@ -6,9 +6,7 @@ ghost use lib.ListN.{length};
 ghost use Rattle.io.specs.Counts.{Counts};
 ghost use Rattle.vectors.specs.Cases.{sized};
 use crate::answers;
-use crate::engines;
 use crate::fields::u32_at;
-use crate::text::write_part;
 use libc::STDIN_FILENO;
 use libc::STDOUT_FILENO;
 
@@ -136,6 +134,12 @@ fn word(kind: u8) {
     write_part(words, from, from + letters(kind));
 }
 
+fn write_part(words: &[u8], from: usize, to: usize)
+    requires { ⌜ (from ≤ to) × (to ≤ length (now words)) ⌝ }
+{
+    io::write_all(STDOUT_FILENO, &words[from..to]);
+}
+
 fn letters(kind: u8) -> usize
     ensures { λ r. ⌜ r ≤ 7 ⌝ }
 {
@@ -162,7 +166,7 @@ fn print_rest(kind: u8, a: &[u8], b: &[u8], c: &mut [u8])
         6 => answers::line(b, c),
         7 => answers::join(a, b, c),
         8 => answers::write(a, b, c),
-        9 => engines::manual(a, b),
+        9 => answers::manual(a, b),
         _ => {}
     }
 }

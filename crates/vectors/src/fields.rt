@@ -28,7 +28,7 @@ fn usize_of(low: u32, high: u32) -> usize
 }
 
 // The number of 16 bits at a place.
-pub(crate) fn u16_at(bytes: &[u8], at: usize) -> u16
+fn u16_at(bytes: &[u8], at: usize) -> u16
     requires { ⌜ at + 2 ≤ length (now bytes) ⌝ }
     ensures { λ r. ⌜ r ≡ u16At (now (bytes .entry)) at ⌝ }
 {

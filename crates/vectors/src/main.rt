@@ -1,9 +1,7 @@
 // The test program: reads cases from standard input and prints the line of each, as docs/CORPUS.md says.
 mod answers;
 mod cases;
-mod engines;
 mod fields;
-mod text;
 
 // Case after case until the input ends, or until 2^64 - 1 of them are answered.
 fn main() {

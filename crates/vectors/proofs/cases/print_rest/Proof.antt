@@ -11,7 +11,7 @@ use Rattle.checks.proofs.Tests.{left, right}
 use Rattle.vectors.proofs.cases.print_rest.Statement.{statement}
 use Rattle.vectors.proofs.cases.print_rest.Tie as tie
 
--- what a length is tested for it reaches; alone, or before the fields that are empty
+-- what a length is tested for it reaches; alone, or before two numbers that are 0
 reaches : (a k : ℕ) → T (eqb a k) → k ≤ a
 reaches a k t = let e = eqb→eq a k t in omega arith
 

@@ -4,8 +4,8 @@ use Prim.Native.Nat.{_-_, _≤_}
 use native.Mathlib.Omega.{arith}
 use lib.ListN.{length}
 use borrow.Author.Needs.{needs}
-use Rattle.vectors.proofs.text.pairs.Statement.{statement}
-use Rattle.vectors.proofs.text.pairs.Tie as tie
+use Rattle.printing.proofs.pairs.Statement.{statement}
+use Rattle.printing.proofs.pairs.Tie as tie
 
 abbrev Inv-loop : tie.InvT-loop
 Inv-loop bytes text₀ count₀ i₀ text count i = (i ≤ length bytes) × (count ≤ 2048)

@@ -3,8 +3,8 @@
 use Prim.Native.Nat.{_-_, _≤_}
 use native.Mathlib.Omega.{arith}
 use borrow.Author.Needs.{needs}
-use Rattle.vectors.proofs.text.table.Statement.{statement}
-use Rattle.vectors.proofs.text.table.Tie as tie
+use Rattle.printing.proofs.table.Statement.{statement}
+use Rattle.printing.proofs.table.Tie as tie
 
 abbrev Inv-loop : tie.InvT-loop
 Inv-loop entries i₀ i = i ≤ 18

@@ -5,8 +5,8 @@ use mathlib.Core.Path.{_≡_, refl}
 use native.Mathlib.Omega.{arith}
 use lib.ListN.{length, length-set}
 use borrow.Author.Needs.{needs}
-use Rattle.vectors.proofs.engines.print_flags.Statement.{statement}
-use Rattle.vectors.proofs.engines.print_flags.Tie as tie
+use Rattle.engines.proofs.print_flags.Statement.{statement}
+use Rattle.engines.proofs.print_flags.Tie as tie
 
 abbrev Inv-loop : tie.InvT-loop
 Inv-loop flags bytes₀ i₀ bytes i = (i ≤ 64) × (length bytes ≡ 64)

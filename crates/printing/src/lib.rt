@@ -1,4 +1,4 @@
-// The parts of a line, written to standard output.
+// The parts of a line of the test program, written to standard output.
 ghost use Prim.Native.Nat.{_≤_, _<_};
 ghost use lib.ListN.{length};
 use libc::STDOUT_FILENO;
@@ -6,12 +6,12 @@ use limits::Table;
 use shift::State;
 
 // A space and a number in decimal.
-pub(crate) fn number(n: usize) {
+pub fn number(n: usize) {
     io::write_all(STDOUT_FILENO, b" ");
     io::print_decimal(STDOUT_FILENO, n as u64);
 }
 
-pub(crate) fn number32(n: u32) {
+pub fn number32(n: u32) {
     number(n as usize);
 }
 
@@ -19,12 +19,12 @@ fn number16(n: u16) {
     number(n as usize);
 }
 
-pub(crate) fn number8(n: u8) {
+pub fn number8(n: u8) {
     number(n as usize);
 }
 
 // The entries of a table.
-pub(crate) fn table(table: Table) {
+pub fn table(table: Table) {
     let entries = table.entries();
     let mut i: usize = 0;
     while i < 18 {
@@ -34,7 +34,7 @@ pub(crate) fn table(table: Table) {
 }
 
 // The fields of a state.
-pub(crate) fn state(state: State) {
+pub fn state(state: State) {
     number32(state.clock);
     number8(state.gear_box);
     number8(state.phase);
@@ -46,7 +46,7 @@ pub(crate) fn state(state: State) {
 }
 
 // A space and bytes, or `-` for none.
-pub(crate) fn bytes(bytes: &[u8]) {
+pub fn bytes(bytes: &[u8]) {
     if bytes.len() == 0 {
         io::write_all(STDOUT_FILENO, b" -");
         return;
@@ -100,7 +100,7 @@ fn write_pairs(text: &[u8; 4096], count: usize)
     write_part(text, 0, 2 * count);
 }
 
-pub(crate) fn write_part(text: &[u8], from: usize, to: usize)
+fn write_part(text: &[u8], from: usize, to: usize)
     requires { ⌜ (from ≤ to) × (to ≤ length (now text)) ⌝ }
 {
     io::write_all(STDOUT_FILENO, &text[from..to]);

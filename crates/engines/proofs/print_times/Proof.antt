@@ -3,8 +3,8 @@
 use Prim.Native.Nat.{_-_, _≤_}
 use native.Mathlib.Omega.{arith}
 use borrow.Author.Needs.{needs}
-use Rattle.vectors.proofs.engines.print_times.Statement.{statement}
-use Rattle.vectors.proofs.engines.print_times.Tie as tie
+use Rattle.engines.proofs.print_times.Statement.{statement}
+use Rattle.engines.proofs.print_times.Tie as tie
 
 abbrev Inv-loop : tie.InvT-loop
 Inv-loop times i₀ i = i ≤ 34

@@ -1,25 +1,46 @@
 // What a case of records for both engines is answered by: each from its start, up to its first number that is not 0.
-ghost use Prim.Native.Nat.{_≤_};
+ghost use Prim.Native.Nat.{_/_, _≤_, _<_};
 ghost use lib.ListN.{length};
-use crate::fields::table_at;
-use crate::fields::u16_at;
-use crate::text;
-use crate::text::number;
-use crate::text::number8;
-use crate::text::number32;
 use limits::Table;
 use manual::Moved;
 use manual::Variables;
 use manual_reading::Read;
+use printing::number;
+use printing::number8;
+use printing::number32;
 use shift::Answer;
 use shift::State;
 
-pub(crate) fn manual(a: &[u8], records: &[u8])
-    requires { ⌜ 36 ≤ length (now a) ⌝ }
-{
-    let table = table_at(a, 0);
+// The line of a table and records, behind its word: of the manual's engine, then of ours.
+pub fn print(table: Table, records: &[u8]) {
     print_manual(table, records);
     print_ours(table, records);
+}
+
+// A record's four bytes.
+struct Record {
+    code: u8,
+    middle: u8,
+    low: u8,
+    high: u8,
+}
+
+// The record of this index.
+fn record_at(records: &[u8], index: usize) -> Record
+    requires { ⌜ index < length (now records) / 4 ⌝ }
+{
+    let at = 4 * index;
+    Record {
+        code: records[at],
+        middle: records[at + 1],
+        low: records[at + 2],
+        high: records[at + 3],
+    }
+}
+
+// An amount's two bytes.
+fn amount_of(low: u8, high: u8) -> u32 {
+    low as u32 + 256 * (high as u32)
 }
 
 // The manual's engine, from INITIALISATION.
@@ -29,17 +50,17 @@ fn print_manual(table: Table, records: &[u8]) {
         rule: 0,
         variables: Variables::initialisation(),
     };
-    let mut from: usize = 0;
-    while from + 4 <= records.len() {
+    let mut accepted: usize = 0;
+    while accepted < records.len() / 4 {
         let v = moved.variables;
-        let amount = u16_at(records, from + 2);
-        moved = manual_engine::step(v, table, records[from], records[from + 1], amount as u32);
+        let r = record_at(records, accepted);
+        moved = manual_engine::step(v, table, r.code, r.middle, amount_of(r.low, r.high));
         if moved.number != 0 {
             break;
         }
-        from += 4;
+        accepted += 1;
     }
-    print_end(moved.number, moved.rule, from);
+    print_end(moved.number, moved.rule, accepted);
     print_variables(moved.variables);
 }
 
@@ -56,31 +77,25 @@ fn print_ours(table: Table, records: &[u8]) {
         rule: 0,
         state: State::start(),
     };
-    let mut from: usize = 0;
-    while from + 4 <= records.len() {
+    let mut accepted: usize = 0;
+    while accepted < records.len() / 4 {
         let state = answer.state;
-        answer = gateway::advanced(
-            state,
-            table,
-            records[from],
-            records[from + 1],
-            records[from + 2],
-            records[from + 3],
-        );
+        let r = record_at(records, accepted);
+        answer = gateway::advanced(state, table, r.code, r.middle, r.low, r.high);
         if answer.number != 0 {
             break;
         }
-        from += 4;
+        accepted += 1;
     }
-    print_end(answer.number, answer.rule, from);
-    text::state(answer.state);
+    print_end(answer.number, answer.rule, accepted);
+    printing::state(answer.state);
 }
 
-// The number, the rule, and how many records stand before a place.
-fn print_end(last: u8, rule: u8, from: usize) {
+// The last number, its rule, and how many records were accepted.
+fn print_end(last: u8, rule: u8, accepted: usize) {
     number8(last);
     number8(rule);
-    number(from / 4);
+    number(accepted);
 }
 
 // The variables of type BOOL.
@@ -200,7 +215,7 @@ fn print_flags(flags: &[bool; 64]) {
         bytes[i] = flags[i] as u8;
         i += 1;
     }
-    text::bytes(&bytes);
+    printing::bytes(&bytes);
 }
 
 fn print_times(times: &[u32; 34]) {
