@@ -7,15 +7,18 @@ use Prim.Native.Nat.{ℕ, zero, suc}
 use lib.Dec.{T}
 use Rattle.checks.proofs.Tests.{case}
 use Rattle.limits.specs.declared.Table.{Table}
+use Rattle.limits.specs.Rules.{brokenRule}
 use Rattle.shift.specs.declared.Step.{Step}
 use Rattle.shift.specs.declared.Reading.{Reading}
 use Rattle.shift.specs.declared.Reading.the-variants.{Means, WrongCode, WrongAmount}
 use Rattle.shift.specs.States.{start}
+use Rattle.shift.specs.Answers.{reading}
 use Rattle.manual.specs.declared.Variables.{Variables}
+use Rattle.manual.specs.declared.Moved.{Moved}
 use Rattle.manual.specs.Variables.{initialisation}
 use Rattle.manual.specs.Events.{answered}
 use Rattle.manual.specs.Steps.{stepped}
-use Rattle.manual.specs.Answers.{numberOf, ledTo}
+use Rattle.manual.specs.Answers.{numberOf, ledTo, moveTo, moved, admitting, movedOn}
 use Rattle.manual.specs.Runs.{Outcome, after, run}
 use Rattle.manual.proofs.Places.{Place, varsAt, valid}
 use Rattle.manual.proofs.Ways.{goes, leads}
@@ -62,3 +65,17 @@ module _ (t : Table) (P : Variables → Type 0) (keeps : (v : Variables) (x : St
   run-keeps v [] i = i
   run-keeps v (r ∷ rs) i =
       one-more (numberOf t v r) v (run t (ledTo t v r) rs) i (λ z. run-keeps (ledTo t v r) rs (goes-on v r i z))
+
+  -- and after a call that answers as the definition of one step says
+  answered-so : (k : ℕ) (v v′ : Variables) → P v → (k ≡ 0 → P v′) → P (moveTo k v′ v .variables)
+  answered-so zero v v′ i f = f refl
+  answered-so (suc k) v v′ i f = i
+
+  admitted-so : (k : ℕ) (m : Moved) (v : Variables) → P v → P (m .variables) → P (admitting k m v .variables)
+  admitted-so zero m v i j = j
+  admitted-so (suc k) m v i j = i
+
+  pub call-keeps : (v : Variables) (code middle n : ℕ) → P v → P (movedOn t v code middle n .variables)
+  call-keeps v code middle n i =
+      let r = reading code middle n in
+      admitted-so (brokenRule t) (moved t v r) v i (answered-so (numberOf t v r) v (ledTo t v r) i (goes-on v r i))
