@@ -104,7 +104,8 @@ static void make_record(const munasirel_state *state, const uint16_t table[LIMIT
     uint16_t limit = table[below(LIMITS)];
     const uint32_t ends[] = {state->clock + below(6), state->stage_time + limit, state->phase_time + limit, UINT32_MAX};
     uint16_t amount = is_tick ? ends[below(4)] + below(3) - 1 - state->clock : 0;
-    record[0] = is_tick ? MUNASIREL_STEP_TICK : 1 + below(11);
+    uint8_t other = 1 + below(MUNASIREL_STEP_RESET - 1);
+    record[0] = is_tick ? MUNASIREL_STEP_TICK : other == MUNASIREL_STEP_TICK ? MUNASIREL_STEP_RESET : other;
     record[1] = 0;
     record[2] = amount & 255;
     record[3] = amount >> 8;

@@ -1,4 +1,4 @@
-/* The rules of document 01 in straightforward C: the limit table, the phases, the twelve steps, what a record's bytes mean.
+/* The rules of document 01 in straightforward C: the limit table, the phases, the thirteen steps, what a record's bytes mean.
  * Judge and running judge each compile their own copy. */
 #ifndef RULES_H
 #define RULES_H
@@ -133,7 +133,7 @@ static inline int is_engine_phase(uint8_t phase)
     return phase == 1 || phase == 6 || phase == 10 || phase == 17;
 }
 
-/* ---- the twelve steps on a listed state: each answers 0 and changes the state, or answers the number that refuses it */
+/* ---- the thirteen steps on a listed state: each answers 0 and changes the state, or answers the number that refuses it */
 static inline int shifts_in(const munasirel_state *state, uint8_t stage)
 {
     return is_unfinished(state->phase) && state->stage == stage;
@@ -141,8 +141,6 @@ static inline int shifts_in(const munasirel_state *state, uint8_t stage)
 
 static inline void enter(munasirel_state *state, uint8_t phase)
 {
-    if (phase == MUNASIREL_PHASE_DONE)
-        state->gear_box = state->phase == 19 || state->phase == 21 ? MUNASIREL_BOX_NEUTRAL : MUNASIREL_BOX_IN_GEAR;
     if (phase == MUNASIREL_PHASE_AT_REST)
         state->request_time = 0;
     state->failed_phase = phase == MUNASIREL_PHASE_ERROR ? state->phase : 0;
@@ -176,11 +174,15 @@ static inline uint8_t take(munasirel_state *state, const uint16_t table[LIMITS])
 {
     if (!shifts_in(state, MUNASIREL_STAGE_GOOD))
         return MUNASIREL_NOT_ALLOWED;
+    uint8_t order = phases[state->phase].order;
     if (is_engine_phase(state->phase)) {
-        uint16_t ex = table[limits_of[phases[state->phase].order].ex];
-        if (state->clock > (uint64_t)state->phase_time + ex)
+        if (state->clock > (uint64_t)state->phase_time + table[limits_of[order].ex])
             return MUNASIREL_TOO_LATE;
     }
+    if (order == SET)
+        state->gear_box = MUNASIREL_BOX_IN_GEAR;
+    if (order == RELEASE)
+        state->gear_box = MUNASIREL_BOX_NEUTRAL;
     enter(state, phases[state->phase].taken);
     return MUNASIREL_ACCEPTED;
 }
@@ -257,6 +259,11 @@ static inline uint8_t step(munasirel_state *state, const uint16_t table[LIMITS],
             return MUNASIREL_NOT_ALLOWED;
         enter(state, MUNASIREL_PHASE_AT_REST);
         return MUNASIREL_ACCEPTED;
+    case MUNASIREL_STEP_RESET:
+        if (state->phase != MUNASIREL_PHASE_ERROR)
+            return MUNASIREL_NOT_ALLOWED;
+        enter(state, MUNASIREL_PHASE_AT_REST);
+        return MUNASIREL_ACCEPTED;
     default:
         return tick(state, table, amount);
     }
@@ -273,7 +280,7 @@ static inline uint8_t read_record(const uint8_t record[4], uint8_t *code, uint16
 {
     *code = record[0];
     *amount = u16_at(record + 2);
-    if (*code < MUNASIREL_STEP_FROM_NEUTRAL || *code > MUNASIREL_STEP_TICK)
+    if (*code < MUNASIREL_STEP_FROM_NEUTRAL || *code > MUNASIREL_STEP_RESET)
         return MUNASIREL_BAD_CODE;
     if (record[1] != 0 || (*code == MUNASIREL_STEP_TICK) != (*amount != 0))
         return MUNASIREL_BAD_AMOUNT;

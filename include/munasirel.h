@@ -24,7 +24,7 @@ enum {
     MUNASIREL_BAD_HEADER = 2,           /* a header field is wrong, or too many records */
     MUNASIREL_BAD_LENGTH = 3,           /* the file's length is wrong; for the writer, two lists of unequal length */
     MUNASIREL_TABLE_NOT_ADMITTED = 4,   /* the table breaks a rule */
-    MUNASIREL_BAD_CODE = 5,             /* code 0 or above 12 */
+    MUNASIREL_BAD_CODE = 5,             /* code 0 or above 13 */
     MUNASIREL_BAD_AMOUNT = 6,           /* the middle byte or the amount is wrong */
     MUNASIREL_NOT_ALLOWED = 7,          /* phase or stage does not allow the step, or the state is none that is listed */
     MUNASIREL_WRONG_BOX = 8,            /* at rest, but the box is on the wrong side */
@@ -38,7 +38,8 @@ enum {
     MUNASIREL_OVERLAP_DIFFERS = 16      /* a part differs from the bytes held */
 };
 
-/* The codes of the twelve steps. A tick has an amount of 1 to 65,535, every other step the amount 0. */
+/* The codes of the thirteen steps. A tick has an amount of 1 to 65,535, every other step the amount 0. A reset is allowed in phase 23
+ * alone, enters phase 0 and keeps the box. */
 enum {
     MUNASIREL_STEP_FROM_NEUTRAL = 1,
     MUNASIREL_STEP_GEAR_TO_GEAR = 2,
@@ -51,10 +52,13 @@ enum {
     MUNASIREL_STEP_ASK_CLUTCH = 9,
     MUNASIREL_STEP_RAISE_ERROR = 10,
     MUNASIREL_STEP_FINISH = 11,
-    MUNASIREL_STEP_TICK = 12
+    MUNASIREL_STEP_TICK = 12,
+    MUNASIREL_STEP_RESET = 13
 };
 
-/* Where the gear box stands. */
+/* Where the gear box stands. It moves when an order is taken, and at no other step: a set order makes it in gear, a release order
+ * neutral. So a host that shows it sees it neutral in the middle of a gear to gear shift, from the release taken to the set taken
+ * (phases 10 to 14), and after an error, in phase 23 and after the reset, it stands where the last order taken left it. */
 enum { MUNASIREL_BOX_NEUTRAL = 0, MUNASIREL_BOX_IN_GEAR = 1 };
 
 /* The stages of a phase. */
@@ -67,7 +71,7 @@ enum {
     MUNASIREL_STAGE_WAITING = 5
 };
 
-/* The phases outside a shift. A shift is unfinished in phases 1 to 21. */
+/* The phases outside a shift. A shift is unfinished in phases 1 to 21. In phase 23 only ticks and a reset are accepted. */
 enum { MUNASIREL_PHASE_AT_REST = 0, MUNASIREL_PHASE_DONE = 22, MUNASIREL_PHASE_ERROR = 23 };
 
 /* The most records of a file, the longest good file, and room for any line, in bytes. */
@@ -107,7 +111,7 @@ typedef struct munasirel_state {
     uint8_t stage;         /* MUNASIREL_STAGE_NONE to MUNASIREL_STAGE_WAITING */
     uint32_t stage_time;   /* the clock when the stage was entered */
     uint32_t request_time; /* the clock at the request of the shift, 0 at rest */
-    uint8_t failed_phase;  /* in phase 23 the phase that was left, else 0 */
+    uint8_t failed_phase;  /* in phase 23 the phase that was left, else 0; a reset clears it */
 } munasirel_state;
 
 /* Judges a step file from the start state.

@@ -6,10 +6,12 @@ from typing import Dict, NamedTuple, Sequence, Set
 import m9
 from files import NO_ROOM, fours, judged, line, read, record
 from places import HOW, PLACES, place_of
+from records import LISTED, UNLISTED
 from rules import (
-    ALLOWED, ASK_CLUTCH, ENGINE_PHASES, ERROR, GOOD, NOT_ADMITTED, NOT_ALLOWED, ORDERS, PAST_CLOCK, PAST_PHASE_LIMIT,
-    PAST_STAGE_LIMIT, PHASES, REQUESTS, SENT, START, SYNC, TAKE, TICK, TOO_EARLY, TOO_LATE, WORKING, WRONG_BOX,
-    ZERO_TORQUE, earliest_clock, latest_clocks, slacks,
+    ASK_CLUTCH, BOXES, DEVICE_PHASES, ENGINE_PHASES, ERROR, GOOD, IN_GEAR, NEUTRAL, NO_SUCH_CODE, NOT_ADMITTED,
+    NOT_ALLOWED, ORDERS, PAST_CLOCK, PAST_PHASE_LIMIT, PAST_STAGE_LIMIT, PHASES, RELEASE, REQUESTS, RESET, SENT, SET,
+    START, SYNC, TAKE, TICK, TOO_EARLY, TOO_LATE, WORKING, WRONG_AMOUNT, WRONG_BOX, ZERO_TORQUE, earliest_clock,
+    latest_clocks, slacks,
 )
 
 # No walk takes too late: rules 2 and 3 see to that. No file holds ticks enough to pass the last clock.
@@ -20,7 +22,15 @@ GIVEN_NAMES = tuple(f"({name})" for name in STAGE_NAMES)
 ORDER_NAMES = tuple(order.name for order in ORDERS)
 ALL_RULES = set(range(1, 16))
 OTHER = "other"
-CODES = (*ALLOWED, OTHER)
+NO_CODES = (*UNLISTED, OTHER)
+CODES = (*LISTED, *NO_CODES)
+BOX_NAMES = "neutral", "in gear"
+MOVES = tuple(f"{before}, {after}" for before in BOX_NAMES for after in BOX_NAMES)
+# The phases in which walks have the box in gear.
+IN_GEAR_PHASES = {5, 6, 7, 8, 9, 15, 16, 17, 18, 19, 20}
+RESET_NUMBERS = 0, WRONG_AMOUNT, NOT_ALLOWED
+WAS_RESET = "reset"
+ERROR_COLUMNS = (*BOX_NAMES, WAS_RESET, *(f"then {code}" for code in REQUESTS))
 KEPT, PASSED, REFUSED = "just kept", "passed by one", "refused by it"
 
 
@@ -33,7 +43,7 @@ def reachable(phase):
 
 def step_numbers(code):
     """The numbers that a step can give on any state and table."""
-    if code == OTHER:
+    if code in NO_CODES:
         return {4, 5}
     own = {8} if code in REQUESTS else {TAKE: {10}, ASK_CLUTCH: {9}, TICK: {11, 12, 13}}.get(code, set())
     return {0, 4, 6, 7} | own
@@ -60,6 +70,35 @@ def numbers_by_code(numbers):
     """The rows of a grid of numbers and codes."""
     rows = {number: {code for code in CODES if number in numbers(code)} for number in range(14)}
     return {number: codes for number, codes in rows.items() if codes}
+
+
+def written_numbers(code):
+    """The numbers that the writer can give for a code."""
+    return {NO_SUCH_CODE} if code in NO_CODES else {0, WRONG_AMOUNT}
+
+
+def reset_columns(phase):
+    """The functions with the numbers that they can give for a reset; in error 7 is for a state that is not listed."""
+    numbers = {"step": {6, 7}, "advance": {6, 7}, "judge": {6, 7}} if phase != ERROR else {
+        "step": {0, 6, 7}, "advance": {0, 6, 7}, "judge": {0, 6}}
+    return {f"{name} {number}" for name, found in numbers.items() for number in found}
+
+
+def moves(order, boxes):
+    """How taking an order moves these boxes."""
+    return {f"{BOX_NAMES[box]}, {BOX_NAMES[{SET: IN_GEAR, RELEASE: NEUTRAL}.get(order, box)]}" for box in boxes}
+
+
+def walked_box(phase):
+    """The box that walks have in a phase."""
+    return IN_GEAR if phase in IN_GEAR_PHASES else NEUTRAL
+
+
+def errors_by_phase():
+    """The rows of a grid of failed phases: the box in error, the reset, and the requests that this box allows."""
+    return {phase: {BOX_NAMES[walked_box(phase)], WAS_RESET,
+                    *(f"then {code}" for code, request in REQUESTS.items() if request.box == walked_box(phase))}
+            for phase in sorted(DEVICE_PHASES)}
 
 
 def limits_by_order(never=()):
@@ -114,6 +153,32 @@ GRIDS = {
     "step": Grid("numbers of step, by code", CODES, numbers_by_code(step_numbers)),
     "advance": Grid("numbers of advance, by code", CODES, numbers_by_code(step_numbers)),
     "judge": Grid("numbers of records in judged files, by code", CODES, numbers_by_code(record_numbers)),
+    "write": Grid("numbers of records that were to be written, by code", CODES, numbers_by_code(written_numbers)),
+    "takes": Grid(
+        "takes accepted by step and advance, by phase, and the box before and after",
+        MOVES,
+        {phase: moves(row.order, BOXES) for phase, row in PHASES.items()},
+    ),
+    "file takes": Grid(
+        "takes accepted in judged files, by phase, and the box before and after",
+        MOVES,
+        {phase: moves(row.order, {walked_box(phase)}) for phase, row in PHASES.items()},
+    ),
+    "resets": Grid(
+        "numbers of resets, by phase",
+        tuple(f"{name} {number}" for name in ("step", "advance", "judge") for number in RESET_NUMBERS),
+        {phase: reset_columns(phase) for phase in range(ERROR + 1)},
+    ),
+    "accepted resets": Grid(
+        "resets accepted by step and by advance, by stage and box",
+        tuple(f"{name}, {box}" for name in ("step", "advance") for box in BOX_NAMES),
+        {stage: {f"{name}, {box}" for name in ("step", "advance") for box in BOX_NAMES} for stage in STAGE_NAMES},
+    ),
+    "errors": Grid(
+        "errors in judged files, by failed phase: the box, and what was accepted next",
+        ERROR_COLUMNS,
+        errors_by_phase(),
+    ),
     "limits": Grid("limits just kept, or passed by one, in step and advance", ORDER_NAMES, limits_by_order()),
     "file limits": Grid(
         "limits just kept, or passed by one, in judged files",
@@ -122,6 +187,12 @@ GRIDS = {
     ),
     "manual": Grid("numbers of the manual's engine in lists, by code", CODES, numbers_by_code(manual_numbers)),
     "places": Grid("places of the manual's machine that lists reached: phases, or those that were left", HOW, PLACES),
+    "place resets": Grid("places of the manual's machine where a reset was tried", HOW, PLACES),
+    "place errors": Grid(
+        "errors of the manual's machine, by failed phase: the box, and what was accepted next",
+        ERROR_COLUMNS,
+        errors_by_phase(),
+    ),
     "events": Grid(
         "events of the manual's machine that were chosen, by the number that their guards on the box and on times gave",
         (0, WRONG_BOX, TOO_EARLY, PAST_PHASE_LIMIT, PAST_STAGE_LIMIT),
@@ -156,10 +227,47 @@ def limit_marks(grid, table, state, code, amount, number):
             yield grid, row, PHASES[state.phase].order.name
 
 
+def column(code):
+    """The column of a code."""
+    return code if code in CODES else OTHER
+
+
 def record_marks(name, limits, table, state, code, amount, number):
     """The marks of a code, an amount and their number, in the grids of a function and of its limits."""
-    yield name, number, code if code in ALLOWED else OTHER
+    yield name, number, column(code)
     yield from limit_marks(limits, table, state, code, amount, number)
+    if code == RESET and number in RESET_NUMBERS and state.phase <= ERROR:
+        yield "resets", state.phase, f"{name} {number}"
+
+
+def take_marks(grid, state, code, number, after):
+    """The mark of a take that is accepted."""
+    if (code, number) == (TAKE, 0):
+        yield grid, state.phase, f"{BOX_NAMES[state.box]}, {BOX_NAMES[after.box]}"
+
+
+def single_marks(name, answer, table, state, code, amount):
+    """The marks of a step on a given state."""
+    number, rule, after = answer
+    yield from answer_marks(name, number, rule)
+    yield from record_marks(name, "limits", table, state, code, amount, number)
+    yield from take_marks("takes", state, code, number, after)
+    if (code, number) == (RESET, 0):
+        yield "accepted resets", STAGE_NAMES[state.stage], f"{name}, {BOX_NAMES[state.box]}"
+
+
+def error_marks(grid, accepted):
+    """The marks of errors along accepted steps: of each its code, the failed phase before and after it, and the box."""
+    reset_from = None
+    for code, failed_before, failed, box in accepted:
+        if failed and not failed_before:
+            yield grid, failed, BOX_NAMES[box]
+        if code == RESET:
+            reset_from = failed_before
+            yield grid, reset_from, WAS_RESET
+        if code in REQUESTS and reset_from:
+            yield grid, reset_from, f"then {code}"
+            reset_from = None
 
 
 def answer_marks(name, number, rule):
@@ -182,19 +290,15 @@ def admit_marks(rule, table):
 
 def step_marks(answer, table, state, code, amount):
     """The marks of a step."""
-    number, rule, _ = answer
-    yield from answer_marks("step", number, rule)
-    yield from record_marks("step", "limits", table, state, code, amount, number)
+    yield from single_marks("step", answer, table, state, code, amount)
     if state.phase <= ERROR and state.stage < len(GIVEN_NAMES):
         yield "stages", state.phase, GIVEN_NAMES[state.stage]
 
 
 def advance_marks(answer, table, state, four):
     """The marks of the running judge."""
-    number, rule, _ = answer
     code, amount, _ = record(four)
-    yield from answer_marks("advance", number, rule)
-    yield from record_marks("advance", "limits", table, state, code, amount, number)
+    yield from single_marks("advance", answer, table, state, code, amount)
 
 
 def read_marks(answer, _):
@@ -208,13 +312,17 @@ def judge_marks(answer, file):
     number, rule, _, _ = answer
     yield from answer_marks("judge", number, rule)
     _, _, table, records = read(file)
-    state = START
+    state, accepted = START, []
     yield "stages", state.phase, STAGE_NAMES[state.stage]
     for four, (number, after) in zip(fours(records), judged(table, records)):
         code, amount, _ = record(four)
         yield from record_marks("judge", "file limits", table, state, code, amount, number)
+        yield from take_marks("file takes", state, code, number, after)
         yield "stages", after.phase, STAGE_NAMES[after.stage]
+        if not number:
+            accepted.append((code, state.failed_phase, after.failed_phase, after.box))
         state = after
+    yield from error_marks("errors", accepted)
 
 
 def line_marks(answer, file, _):
@@ -229,10 +337,14 @@ def join_marks(answer, held, _, __, buffer):
     yield "numbers", "join, held" if number == NO_ROOM and held > len(buffer) else "join", number
 
 
-def write_marks(answer, *_):
+def write_marks(answer, _, __, ___, codes, ____):
     """The marks of the writer."""
-    number, rule, *_ = answer
+    number, rule, index, *_ = answer
     yield from answer_marks("write", number, rule)
+    if number in (NO_SUCH_CODE, WRONG_AMOUNT):
+        yield "write", number, column(codes[index])
+    elif not number:
+        yield from (("write", number, code) for code in set(codes))
 
 
 def event_marks(table, variables, code, amount, number):
@@ -253,17 +365,21 @@ def manual_marks(answer, table, records):
     """The marks of the manual's engine, and of each record that it is advanced by."""
     number, rule, *_ = answer
     yield from answer_marks("manual", number, rule)
-    variables = m9.START
+    variables, accepted = m9.START, []
     yield ("places", *place_of(variables))
     for four in fours(records):
         code, amount, middle = record(four)
         number, _, after = m9.step(table, variables, code, amount, middle)
-        yield "manual", number, code if code in ALLOWED else OTHER
+        yield "manual", number, column(code)
         yield from event_marks(table, variables, code, amount, number)
+        if code == RESET and number in (0, NOT_ALLOWED):
+            yield ("place resets", *place_of(variables))
         yield ("places", *place_of(after))
-        variables = after
         if number:
-            return
+            break
+        accepted.append((code, m9.error_phase(variables), m9.error_phase(after), m9.reading(after).box))
+        variables = after
+    yield from error_marks("place errors", accepted)
 
 
 MARKS = {

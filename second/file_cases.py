@@ -3,10 +3,10 @@
 from buffers import NO_BUFFER, buffer_for, with_other_byte
 from corpus import LONGEST_FIELD, case_of
 from files import HEADER, MOST_RECORDS, RECORD, Header, file_of, header_of, line, record_offset
-from records import LISTED, any_record, bad_records, packed_steps, tick_amount, unlisted_code
-from rules import DEFAULT, FROM_NEUTRAL, LONGEST_TICK, TICK, forbidden, latest_clocks
+from records import LISTED, any_record, bad_records, packed_steps, tick_amount, unlisted_codes
+from rules import DEFAULT, FROM_NEUTRAL, LONGEST_TICK, RESET, TICK, forbidden, latest_clocks
 from tables import admitted_table, any_table, broken_table, edge_tables, good_table
-from walks import FINISHED, SHIFTS, any_walk, edges, lead, mixed, states, timed
+from walks import FINISHED, ROUNDS, SHIFTS, any_walk, edges, lead, mixed, states, timed, walks_through_errors
 
 
 def file_with(chance, table, *pieces):
@@ -33,6 +33,11 @@ def advances(table, steps, begin=0):
         yield case_of("advance", table, state, packed_steps([step]))
 
 
+def last_place(steps, code):
+    """The last place of a code in a walk."""
+    return max(place for place, step in enumerate(steps) if step == (code, 0))
+
+
 def every_beginning(chance, table, steps, begin):
     """The walk up to each place from the given one on."""
     for end in range(begin, len(steps) + 1):
@@ -48,27 +53,44 @@ def every_edge(chance, table, steps, begin):
 
 def every_shift(chance):
     """Every shift: up to each place, at its slowest under a tight table, and with each limit just kept and passed."""
-    for request, shift in [(request, shift) for request, shifts in SHIFTS.items() for shift in shifts]:
+    for request, shift in [(request, shift) for request, shifts in ROUNDS.items() for shift in shifts]:
         codes = lead(chance, request) + shift
 
         steps = timed(DEFAULT, codes, mixed(chance))
-        begin = steps.index((request, 0))
-        yield from every_beginning(chance, DEFAULT, steps, begin)
-        yield from advances(DEFAULT, steps, begin)
+        yield from every_beginning(chance, DEFAULT, steps, last_place(steps, request))
 
         tight = admitted_table(chance, tight=True)
         steps = timed(tight, codes, max)
         yield case_of("judge", file_with(chance, tight, steps))
-        yield from advances(tight, steps, steps.index((request, 0)))
+        yield from advances(tight, steps, last_place(steps, request))
 
         table = good_table(chance)
         steps = timed(table, codes, min)
-        yield from every_edge(chance, table, steps, steps.index((request, 0)))
+        yield from every_edge(chance, table, steps, last_place(steps, request))
+
+
+def every_error(chance):
+    """Each error with its reset and each request after it."""
+    for table, steps in walks_through_errors(chance, good_table):
+        yield case_of("judge", file_with(chance, table, steps))
+
+
+def every_reset(chance):
+    """In every phase a reset, and one that doesn't read."""
+    table, walks = good_table(chance), {}
+    for request, shifts in ROUNDS.items():
+        for shift in shifts:
+            steps = timed(table, lead(chance, request) + shift, mixed(chance))
+            for place, state in enumerate(states(table, steps)):
+                walks.setdefault(state.phase, []).append(steps[:place])
+    for found in walks.values():
+        for four in (packed_steps([(RESET, 0)]), chance.choice(bad_records(chance, RESET))):
+            yield case_of("judge", file_with(chance, table, chance.choice(found), four))
 
 
 def faults(chance, table, state):
     """Records that are refused in the state, in every way that a record can be."""
-    for code in (0, 13, 255, unlisted_code(chance)):
+    for code in unlisted_codes(chance):
         yield RECORD.pack(code, chance.choice((0, 255)), chance.choice((0, LONGEST_TICK)))
     for code in LISTED:
         yield from bad_records(chance, code)
@@ -148,7 +170,7 @@ def every_line(chance):
 
 def lines_along_walks(chance):
     """Lines at every place of a walk for each request, and of a tick there that passes the limits, if there are any."""
-    for request, shifts in SHIFTS.items():
+    for request, shifts in ROUNDS.items():
         steps = timed(DEFAULT, lead(chance, request) + chance.choice(shifts), max)
         for end in range(len(steps) + 1):
             for more in ([], [(TICK, LONGEST_TICK)]):
@@ -175,6 +197,8 @@ def largest(chance):
 def demanded(chance):
     """The cases that the coverage demands of these functions."""
     yield from every_shift(chance)
+    yield from every_error(chance)
+    yield from every_reset(chance)
     yield from faulty_walks(chance)
     yield from damaged_files(chance)
     yield from every_line(chance)

@@ -1,4 +1,4 @@
-"""The manual's machine m9 with document 01's settlements: its events, one step, and its variables in our terms."""
+"""The manual's machine m9 as documents 01 and 02 settle it: its events, one step, and its variables in our terms."""
 
 import re
 from typing import NamedTuple, Optional, Tuple
@@ -7,10 +7,10 @@ import m9_printed
 from rules import (
     ASK_CLUTCH, AT_REST, DELIVER, DEVICE_FAILED, DEVICE_GOOD, DONE, ENGINE_WAITS, ERROR, FAILED, FINISH, FROM_NEUTRAL,
     GEAR_TO_GEAR, GOOD, IN_GEAR, LAST_CLOCK, NEUTRAL, NONE, NOT_ADMITTED, NOT_ALLOWED, PAST_CLOCK, PAST_PHASE_LIMIT,
-    PAST_STAGE_LIMIT, RAISE_ERROR, SENT, TAKE, TICK, TO_NEUTRAL, TOO_EARLY, TOO_LATE, WAITING, WORKING, WRONG_BOX,
-    Table, broken_rule, unreadable,
+    PAST_STAGE_LIMIT, RAISE_ERROR, RESET, SENT, TAKE, TICK, TO_NEUTRAL, TOO_EARLY, TOO_LATE, WAITING, WORKING,
+    WRONG_BOX, Table, broken_rule, unreadable,
 )
-from settlements import ADDED, SETTLEMENTS
+from settlements import ADDED, OWN_EVENT, REQUESTED, RESETTING, SETTLED_ACTIONS, SETTLEMENTS
 
 # The manual's names of limits, and the entries of the table that they are.
 LIMITS = {**{name: name for name in Table._fields}, "OpenClutch_Sync_DE": "Sync_DE", "OpenClutch_Zero_DE": "Zero_DE"}
@@ -26,11 +26,18 @@ class Guard(NamedTuple):
 
 
 class Action(NamedTuple):
-    """What an event sets a variable to."""
+    """What an event sets a variable to, or None for one that falls away; as printed, if it is, and why if otherwise."""
 
     label: str
     variable: str
-    value: str
+    value: Optional[str]
+    printed: Optional[str] = None
+    why: str = ""
+
+    @property
+    def stands(self):
+        """The action as it stands here, or None for one that falls away."""
+        return self.value and f"{self.variable} := {self.value}"
 
 
 class Event(NamedTuple):
@@ -47,30 +54,44 @@ def labelled(text):
     return [(label, " ".join(formula.split())) for label, formula in found]
 
 
-def actions_in(text):
-    """The actions in a text."""
-    return tuple(Action(label, *formula.split(" := ")) for label, formula in labelled(text) if label.startswith("act"))
+def action_of(label, printed, stands, why=""):
+    """An action, by its printed form and by that which stands here; either may be None."""
+    variable, value = (stands or printed).split(" := ")
+    return Action(label, variable, value if stands else None, printed, why)
+
+
+def clauses_of(name, text):
+    """The guards and actions of an event: label, printed form, what stands in its place, and why if that is another."""
+    settled = {settlement.label: settlement for settlement in SETTLEMENTS + SETTLED_ACTIONS if settlement.event == name}
+    for label, printed in labelled(text):
+        *_, stands, why = settled.pop(label, (printed, ""))
+        yield label, printed, stands, why
+    for label, (*_, stands, why) in settled.items():
+        yield label, None, stands, why
 
 
 def event_of(text):
     """The event that a text prints, with what is settled of it."""
     name, clauses = text.split("\n", 1)
-    settled = {settlement.label: settlement for settlement in SETTLEMENTS if settlement.event == name}
-    guards = []
-    for label, formula in labelled(clauses):
-        if label in settled:
-            guards.append(Guard(label, formula, settled[label].stands, settled[label].why))
-        elif label.startswith("grd"):
-            guards.append(Guard(label, formula, formula))
-    if ADDED in settled:
-        guards.append(Guard(ADDED, None, settled[ADDED].stands, settled[ADDED].why))
-    return Event(name, tuple(guards), actions_in(clauses))
+    found = list(clauses_of(name, clauses))
+    return Event(
+        name,
+        tuple(Guard(*clause) for clause in found if clause[0] == ADDED or clause[0].startswith("grd")),
+        tuple(action_of(*clause) for clause in found if clause[0] == REQUESTED or clause[0].startswith("act")),
+    )
 
 
-EVENTS = {event.name: event for event in map(event_of, m9_printed.EVENTS.strip().split("\n\n"))}
+def own_event(text, why):
+    """The event that a text has and the manual doesn't: nothing of it is printed."""
+    name, *both = event_of(text)
+    return Event(name, *(tuple(clause._replace(printed=None, why=why) for clause in clauses) for clauses in both))
+
+
+PRINTED_EVENTS = tuple(map(event_of, m9_printed.EVENTS.strip().split("\n\n")))
+EVENTS = {event.name: event for event in (*PRINTED_EVENTS, own_event(OWN_EVENT.strip(), RESETTING))}
 
 VALUES = {"TRUE": True, "FALSE": False, "0": 0}
-INITIALISATION = actions_in(m9_printed.INITIALISATION)
+INITIALISATION = tuple(action_of(label, printed, printed) for label, printed in labelled(m9_printed.INITIALISATION))
 START = {variable: None for variable in m9_printed.VARIABLES.split()}
 START.update((action.variable, VALUES[action.value]) for action in INITIALISATION)
 
@@ -148,6 +169,7 @@ NAMES_BY_CODE = {
     RAISE_ERROR: {order.error() for order in ORDERS.values() if order.error()},
     FINISH: {"FINAL"},
     TICK: {"Tick_Tock"},
+    RESET: {"RESET"},
 }
 
 
@@ -256,20 +278,22 @@ class Machine:
     def __init__(self, off=()):
         settled = {(settlement.event, settlement.label) for settlement in off}
 
-        def formulas(event):
-            """The guards of an event that count, by their labels."""
-            chosen = ((guard.label, guard.printed if (event.name, guard.label) in settled else guard.stands)
-                      for guard in event.guards)
+        def formulas(event, clauses):
+            """The guards or the actions of an event that count, by their labels."""
+            chosen = ((clause.label, clause.printed if (event.name, clause.label) in settled else clause.stands)
+                      for clause in clauses)
             return {label: formula for label, formula in chosen if formula}
 
-        *events, tick_tock = EVENTS.values()
         self.events = {code: [] for code in NAMES_BY_CODE}
-        for event in events:
+        for event in EVENTS.values():
             code, = (code for code, names in NAMES_BY_CODE.items() if event.name in names)
-            self.events[code].append(ready(event.name, formulas(event).values(), event.actions))
+            if code != TICK:
+                actions = [action_of(label, None, formula) for label, formula in formulas(event, event.actions).items()]
+                self.events[code].append(ready(event.name, formulas(event, event.guards).values(), tuple(actions)))
+        self.tick_tock = EVENTS["Tick_Tock"]
         # grd1, tick > 0, is the amount's: a tick of 0 is refused with 6.
-        self.deadlines = [deadline_of(*guard) for guard in formulas(tick_tock).items() if guard[0] != "grd1"]
-        self.tick_tock = tick_tock
+        deadlines = formulas(self.tick_tock, self.tick_tock.guards).items()
+        self.deadlines = [deadline_of(*guard) for guard in deadlines if guard[0] != "grd1"]
 
     def excesses(self, table, variables, amount):
         """By how much a tick passes each deadline that watches; 0 is just kept."""

@@ -8,26 +8,27 @@ from program import ROOT
 from rules import (
     LAST_CLOCK, NOT_ALLOWED, PAST_CLOCK, PAST_PHASE_LIMIT, PAST_STAGE_LIMIT, TOO_EARLY, TOO_LATE, WRONG_BOX, Table,
 )
-from settlements import ADDED
+from settlements import REQUESTED
 
 SPECS = "crates/manual/specs"
 # The files of events, in the manual's order.
 EVENT_SPECS = [f"{SPECS}/{name}.antt" for name in "Requests FromNeutral ToNeutral GearToGear Devices Final".split()]
-TICKS, STEPS, NAMES, VARIABLES = (f"{SPECS}/{name}.antt" for name in ("Ticks", "Steps", "Names", "Variables"))
+TICKS, RESETS, STEPS, NAMES, VARIABLES = (
+    f"{SPECS}/{name}.antt" for name in ("Ticks", "Reset", "Steps", "Names", "Variables"))
 STRUCT, TICK_CODE = "crates/manual/src/lib.rt", "crates/manual_ticks/src/lib.rt"
 # The crates with the functions of events, and what the names of their events begin with.
 CRATES = {
-    "manual_devices": r"Request|Engine_|(Error_)?(Clutch|Gear)_|FINAL",
+    "manual_devices": r"Request|Engine_|(Error_)?(Clutch|Gear)_|FINAL|RESET",
     "manual_neutral": r"(Error_)?(From|To)Neu_",
     "manual_gears": r"(Error_)?NoNeu_",
 }
 EVENT_CODE = {crate: f"crates/{crate}/src/lib.rt" for crate in CRATES}
-FILES = (*EVENT_SPECS, TICKS, STEPS, NAMES, VARIABLES, STRUCT, TICK_CODE, *EVENT_CODE.values())
+FILES = (*EVENT_SPECS, TICKS, RESETS, STEPS, NAMES, VARIABLES, STRUCT, TICK_CODE, *EVENT_CODE.values())
 
 # The names of the steps in the text, by code.
 STEP_NAMES = dict(enumerate((
     "FromNeutral", "GearToGear", "ToNeutral", "Deliver", "DeviceGood", "DeviceFailed", "EngineWaits", "Take",
-    "AskClutch", "RaiseError", "Finish", "Tick"), 1))
+    "AskClutch", "RaiseError", "Finish", "Tick", "Reset"), 1))
 # The table's entries by their names in the text, such as open_clutch_dl.
 ENTRIES = {entry.replace("_", "").lower(): entry for entry in Table._fields}
 
@@ -105,6 +106,20 @@ def mark_of(guard):
     return f"01: printed {' '.join(sorted(names_in(guard.printed) - names_in(guard.stands)))}"
 
 
+def action_said(action):
+    """An action's label and what it says."""
+    if not action.why:
+        return action.label, action.stands
+    said = "not printed" if action.printed is None else f"printed {action.printed}"
+    return action.label, f"{action.stands or 'nothing'} (02: {said})"
+
+
+def unmarked(event):
+    """The event that is not the manual's, of which nothing is marked."""
+    return event._replace(guards=[guard._replace(why="") for guard in event.guards],
+                          actions=[action._replace(why="") for action in event.actions])
+
+
 def guard_said(guard):
     """A guard's label and what it says."""
     formula, number = guard.stands, number_of(guard.stands)
@@ -121,12 +136,13 @@ def guard_said(guard):
 def manual_events(flags_first):
     """The facts of the events; in code the guards on flags come first."""
     for event in EVENTS.values():
+        if event.name == "RESET":
+            event = unmarked(event)
         # Tick_Tock's grd1, tick > 0, is asked of the record.
         guards = [guard for guard in event.guards if guard.stands != "tick > 0"]
         if flags_first and event.name != "Tick_Tock":
             guards.sort(key=lambda guard: number_of(guard.stands) != NOT_ALLOWED)
-        actions = [(label, f"{variable} := {value}") for label, variable, value in event.actions]
-        yield from clauses(event.name, [guard_said(guard) for guard in guards] + actions)
+        yield from clauses(event.name, [*map(guard_said, guards), *map(action_said, event.actions)])
 
 
 def manual_definitions():
@@ -168,17 +184,18 @@ def plain(text):
 
 def mark_in(comment):
     """What a comment says of what is settled, behind its label."""
-    if "01:" not in comment:
+    document = re.search(r"\b0[12]:", comment)
+    if not document:
         return ""
     if comment.endswith("; not printed"):
-        return "01: not printed"
+        return f"{document.group()} not printed"
     _, _, printed = comment.rpartition("; printed ")
-    return f"01: printed {' '.join(sorted(names_in(printed)))}"
+    return f"{document.group()} printed {printed if ':=' in printed else ' '.join(sorted(names_in(printed)))}"
 
 
 def label_in(comment):
     """The label that a comment begins with."""
-    return ADDED if comment.startswith("01:") else comment.split(";")[0].strip()
+    return re.split("[:;]", comment)[0].strip()
 
 
 def commented(text, sign):
@@ -237,9 +254,15 @@ def guard_read(piece, comment):
     return guarded(*matched(ANTT_GUARDS, piece), mark_in(comment))
 
 
-def action_read(piece, _):
-    """An action of a definition."""
-    return matched(ANTT_ACTIONS, piece)
+def marked(said, comment):
+    """An action, and what is settled of it."""
+    mark = mark_in(comment)
+    return f"{said} ({mark})" if mark else said
+
+
+def action_read(piece, comment):
+    """An action of a definition; what is left out stands there as its comment."""
+    return marked(matched(ANTT_ACTIONS, piece) if piece else "nothing", comment)
 
 
 def definitions_in(text):
@@ -289,6 +312,21 @@ def antt_ticks(text):
     yield "Tick_Tock: the clock's end", "{}, else {}".format(*first.groups()) if first else str(order)
 
 
+def antt_reset(text):
+    """The facts of RESET's definition: its guard, and that it lowers every flag."""
+    bodies = {name: plain(body) for name, _, body in definitions_in(text)}
+    flags = either(bodies["erred"], " || ", lambda flag: flag[len("v ."):])
+    number, = re.fullmatch(r"event \(\(erred v ! (\d+)\) ∷ \[\]\) \(lowerAll ∷ \[\]\) v", bodies["RESET"]).groups()
+    lowers = bodies["lowerAll"] == "variables (v .time) (v .isNeu) (λ (f : Flag). false) (timeOf v)"
+    lowered = [name for name in BOOLS if name != "isNeu" and lowers]
+    return clauses("RESET", [("grd1", guarded(flags, number, "")), *lowering(lowered)])
+
+
+def lowering(flags):
+    """The labels and actions that lower flags."""
+    return [(f"act{number}", f"{flag} := FALSE") for number, flag in enumerate(flags, 1)]
+
+
 def antt_steps(text):
     """The facts of the steps: for each its events in order."""
     lists, steps = {}, {}
@@ -315,9 +353,11 @@ def definition_facts(texts):
         for name, _, body in definitions_in(texts[file]):
             names.append(name)
             yield from antt_event(name, re.sub(r"^\s*event\b", "", body))
-    names += [name for name, _, _ in definitions_in(texts[TICKS]) if name in EVENTS]
+    for file in (TICKS, RESETS):
+        names += [name for name, _, _ in definitions_in(texts[file]) if name in EVENTS]
     yield "the events in order", " ".join(names)
     yield from antt_ticks(texts[TICKS])
+    yield from antt_reset(texts[RESETS])
     yield from antt_steps(texts[STEPS])
     for kind in ("Flag", "Time"):
         declared = re.search(rf"pub data {kind} : Type 0 where\n(.*?)\n\n", texts[NAMES], re.DOTALL).group(1)
@@ -371,8 +411,8 @@ def code_event(name, body):
     for piece, comment in commented(body, "//"):
         label = label_in(comment)
         piece = re.sub(r"^(let enabled =|&) ", "", piece).rstrip(";").strip()
-        if label.startswith("act"):
-            found.append((label, matched(CODE_ACTIONS, piece)))
+        if label.startswith("act") or label == REQUESTED:
+            found.append((label, marked(matched(CODE_ACTIONS, piece) if piece else "nothing", comment)))
         else:
             found.append((label, guarded(*matched(CODE_GUARDS, piece), mark_in(comment))))
     numbered = any(f"else {number}" in said for label, said in found for number in (WRONG_BOX, TOO_EARLY, TOO_LATE))
@@ -380,6 +420,14 @@ def code_event(name, body):
     if rest != f"Event {{ enabled, number{'' if numbered else ': 0'}, after: v, }}":
         raise Unread(f"{name}: can't be read to its end: {rest}")
     return clauses(name, found)
+
+
+def code_reset(name, body):
+    """The facts of RESET's function, which has no labels."""
+    found = re.fullmatch(r"let enabled = ([^;]*); ((?:v\.\w+ = false; )*)Event { enabled, number: 0, after: v, }", plain(body))
+    flags, number = matched(CODE_GUARDS, found.group(1))
+    lowered = re.findall(r"v\.(\w+) = false;", found.group(2))
+    return clauses(name, [("grd1", guarded(flags, number, "")), *lowering(lowered)])
 
 
 # A guard of Tick_Tock in code: the comment before it, its label, the flag that is up and those that are down, its time and its limit.
@@ -411,7 +459,7 @@ def code_facts(texts):
         functions = functions_in(texts[file])
         yield f"the events of {crate} in order", " ".join(name for name, _ in functions)
         for name, body in functions:
-            yield from code_event(name, body)
+            yield from (code_reset if name == "RESET" else code_event)(name, body)
     yield from code_ticks(texts[TICK_CODE])
     struct = re.search(r"pub struct Variables \{\n(.*?)\n\}", texts[STRUCT], re.DOTALL).group(1)
     fields = re.findall(r"pub (\w+): (\w+),", struct)

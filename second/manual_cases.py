@@ -4,17 +4,17 @@ from itertools import cycle
 
 import places
 from corpus import case_of
-from records import LISTED, any_record, bad_records, good_amount, packed_steps, tick_amount, unlisted_code
+from records import LISTED, any_record, bad_records, good_amount, packed_steps, tick_amount, unlisted_codes
 from rules import (
     ASK_CLUTCH, DEFAULT, DELIVER, DEVICE_FAILED, DEVICE_GOOD, ENGINE_WAITS, FINISH, GOOD, LONGEST_TICK, RAISE_ERROR,
-    REQUESTS, SENT, TAKE, TICK, WORKING,
+    REQUESTS, RESET, SENT, TAKE, TICK, WORKING,
 )
 from tables import admitted_table, any_table, broken_table, edge_tables, good_table
-from walks import SHIFTS, any_walk, edges, lead, mixed, states, timed
+from walks import SHIFTS, any_walk, edges, lead, mixed, states, timed, walks_through_errors
 
 # Lists are not longer: the programs that answer them may run under an emulator.
 MOST_STEPS = 250
-# At each place the controller's codes are tried, and some of the others.
+# At each place the controller's codes and reset are tried, and some of the others.
 CONTROLLER = TAKE, ASK_CLUTCH, RAISE_ERROR
 OTHERS = DELIVER, DEVICE_GOOD, DEVICE_FAILED, ENGINE_WAITS, FINISH
 OTHERS_TRIED = 3
@@ -35,7 +35,7 @@ def every_place(chance):
     """At every place some codes, at most of them a request in turn, and a tick that passes every limit there is."""
     requests = cycle(REQUESTS)
     for (_, how), ways in places.ways().items():
-        codes = [*CONTROLLER, *chance.sample(OTHERS, OTHERS_TRIED)]
+        codes = [*CONTROLLER, RESET, *chance.sample(OTHERS, OTHERS_TRIED)]
         if how not in ("working", "good"):
             codes.append(next(requests))
         for code in codes:
@@ -76,21 +76,27 @@ def every_shift(chance):
             yield manual_case(table, timed(table, lead(chance, request) + shift, max), [(TICK, tick_amount(chance))])
 
 
+def every_error(chance):
+    """Each error with its reset and each request after it."""
+    for table, steps in walks_through_errors(chance, good_table):
+        yield manual_case(table, steps)
+
+
 def every_table(chance):
     """Tables at the edge of each rule; tables that are not admitted without a record, and with one of each code."""
     for rule in range(1, 16):
         broken, kept, _ = edge_tables(chance, rule)
         for table in (broken, kept):
-            yield manual_case(table, any_walk(chance, DEFAULT)[:MOST_STEPS])
+            yield manual_case(table, any_walk(chance, DEFAULT)[:MOST_STEPS], [(TICK, 1)])
     yield manual_case(broken_table(chance))
-    for code in (0, *LISTED):
+    for code in (*LISTED, *unlisted_codes(chance)):
         yield manual_case(broken_table(chance), [(code, good_amount(chance, code))])
 
 
 def every_bad_record(chance):
     """Records that don't read, at a place by chance."""
     ways = list(places.ways().values())
-    bad = [bytes((code, 0, 0, 0)) for code in (0, 13, 255, unlisted_code(chance))]
+    bad = [bytes((code, 0, 0, 0)) for code in unlisted_codes(chance)]
     for four in bad + [four for code in LISTED for four in bad_records(chance, code)]:
         table = good_table(chance)
         yield manual_case(table, steps_to(chance, table, chance.choice(ways)), four)
@@ -102,6 +108,7 @@ def demanded(chance):
     yield from every_request(chance)
     yield from every_limit(chance)
     yield from every_shift(chance)
+    yield from every_error(chance)
     yield from every_table(chance)
     yield from every_bad_record(chance)
 

@@ -10,10 +10,11 @@ from m9 import BOOLS, EVENTS, M9, NAMES_BY_CODE
 from program import ROOT, printed
 from records import packed_steps
 from rules import DEFAULT, FINISH, TICK
-from settlements import ADDED, SETTLEMENTS
+from settlements import ADDED, REQUESTED, SETTLED_ACTIONS, SETTLEMENTS
 from walks import timed
 
 PAGE = ROOT / "docs" / "MANUAL.md"
+SETTLED = SETTLEMENTS + SETTLED_ACTIONS
 
 
 class NotMade(Exception):
@@ -42,6 +43,8 @@ def what_changes(settlement, states):
     change = reached.first_change(settlement, table, states)
     if not change:
         return "nothing"
+    if change.printed == change.settled:
+        return f"{run_text(change.steps)}: accepted either way, as printed with isNeu as before"
     said = f"{run_text(change.steps)}: as printed {change.printed or 'accepted'}, here {change.settled or 'accepted'}"
     if not change.accepted():
         said += "; what is accepted is the same"
@@ -51,52 +54,54 @@ def what_changes(settlement, states):
 
 def settled_row(settlement, states):
     """The row of a settlement."""
-    guard, = (guard for guard in EVENTS[settlement.event].guards if guard.label == settlement.label)
-    before = f"`{guard.printed}`" if guard.printed else "nothing"
-    where = f"{settlement.event}, {label_text(guard)}"
-    return where, before, f"`{guard.stands}`", guard.why, what_changes(settlement, states)
+    event = EVENTS[settlement.event]
+    clause, = (clause for clause in event.guards + event.actions if clause.label == settlement.label)
+    before, here = (f"`{formula}`" if formula else "nothing" for formula in (clause.printed, clause.stands))
+    return f"{settlement.event}, {label_text(clause)}", before, here, clause.why, what_changes(settlement, states)
 
 
 def searched_text(found):
     """What was searched, in words and figures."""
     numbers = {name: sum(bool(reached.first_change(settlement, reached.SEARCHED[name][0], states))
-                         for settlement in SETTLEMENTS) for name, states in found.items()}
+                         for settlement in SETTLED) for name, states in found.items()}
     variables = [state.variables for states in found.values() for state in states]
     enabled = max(sum(event.flags.met(each) for event in events) for each in variables for events in M9.events.values())
     error_flags = [flag for flag in BOOLS if flag.startswith("Error_")]
     errors = sum(each[flag] for each in variables if M9.chosen(each, FINISH) for flag in error_flags)
     return (
         f"Searched were {len(found['default'])} states under the default table, where {numbers['default']} of the "
-        f"{len(SETTLEMENTS)} change an answer, and {len(found['small'])} under a table with small limits, where "
+        f"{len(SETTLED)} change an answer, and {len(found['small'])} under a table with small limits, where "
         f"{numbers['small']} do; states that can do the same now count as one. In all of them at most {enabled} event "
         f"of a step has its guards on flags hold, and where FINAL's guard holds, {errors} error flags are up."
     )
 
 
 def settled_part():
-    """The guards that stand otherwise than printed, and what that changes."""
+    """The guards and actions that stand otherwise than printed, and what that changes."""
     found = {name: list(reached.reached(M9, *search)) for name, search in reached.SEARCHED.items()}
     head = "event and label", "printed", "stands here", "why", "on reached states, with this one as printed"
-    rows = [settled_row(settlement, found["default"]) for settlement in SETTLEMENTS]
+    rows = [settled_row(settlement, found["default"]) for settlement in SETTLED]
     return f"{table_of(head, rows)}\n\n{searched_text(found)}"
 
 
-def label_text(guard):
-    """The label of a guard, or that the manual has none for it."""
-    return "added" if guard.label == ADDED else guard.label
+def label_text(clause):
+    """The label of a guard or an action, or that the manual has none for it."""
+    return "added" if clause.label in (ADDED, REQUESTED) else clause.label
 
 
 def event_row(event):
     """The row of an event."""
     guards = [f"{label_text(guard)} {guard.stands}" for guard in event.guards]
-    actions = [f"{label} {variable} := {value}" for label, variable, value in event.actions]
-    settled = [label_text(guard) for guard in event.guards if guard.why]
+    actions = [f"{label_text(action)} {action.stands}" for action in event.actions if action.stands]
+    settled = [label_text(clause) for clause in event.guards + event.actions if clause.why]
+    against = f"settled: {', '.join(settled)}" if settled else "as printed"
     if event.name == "Tick_Tock":
         guards = ["grd1 tick > 0", "grd2 to grd55 in the table below"]
     if event.name == "FINAL":
         actions = ["act1 to act42, := FALSE: " + ", ".join(action.variable for action in event.actions)]
-    return event.name, str(code_of(event.name)), "; ".join(guards), "; ".join(actions), \
-        f"settled: {', '.join(settled)}" if settled else "as printed"
+    if event.name == "RESET":
+        actions, against = [f":= FALSE: all {len(event.actions)} flags but isNeu"], "not the manual's: request 2"
+    return event.name, str(code_of(event.name)), "; ".join(guards), "; ".join(actions), against
 
 
 def deadline_row(deadline):

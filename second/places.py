@@ -3,8 +3,8 @@
 from functools import lru_cache
 
 import m9
-from rules import DEFAULT, FAILED, FROM_NEUTRAL, GOOD, SENT, TICK, WAITING, WORKING
-from walks import FINISHED, SHIFTS, timed
+from rules import DEFAULT, FAILED, GOOD, SENT, TICK, WAITING, WORKING
+from walks import ROUNDS, leads, timed
 
 AT_REST = 0
 NEUTRAL, IN_GEAR, DONE, ERROR = "neutral", "in gear", "done", "error"
@@ -35,9 +35,8 @@ def place_of(variables):
 def ways():
     """For each place the ways that lead to it, as codes: none for the start, and through each shift for the others."""
     found = {(AT_REST, NEUTRAL): {(): None}}
-    for request, shifts in SHIFTS.items():
-        leads = [()] if request == FROM_NEUTRAL else FINISHED[FROM_NEUTRAL]
-        for codes in [lead + shift for shift in shifts for lead in leads]:
+    for request, shifts in ROUNDS.items():
+        for codes in [lead + shift for shift in shifts for lead in leads(request)]:
             variables, way = m9.START, ()
             for code, amount in timed(DEFAULT, codes, min):
                 _, _, variables = m9.step(DEFAULT, variables, code, amount)

@@ -73,14 +73,14 @@ def reached(machine, table, ticks):
 
 
 class Change(NamedTuple):
-    """A list of steps whose last has another number as printed than as settled, and whether it is accepted in one."""
+    """A list of steps whose last has another answer as printed than as settled, and both numbers."""
 
     steps: Tuple[Tuple[int, int], ...]
     printed: int
     settled: int
 
     def accepted(self):
-        """Whether one of the two accepts it."""
+        """Whether one of the two accepts it; where both do, what they lead to is another."""
         return 0 in (self.printed, self.settled)
 
 

@@ -4,6 +4,8 @@ from files import RECORD
 from rules import ALLOWED, LAST_CLOCK, LONGEST_TICK, TICK
 
 LISTED = tuple(ALLOWED)
+# The codes beside those that are listed, and the last.
+UNLISTED = 0, max(LISTED) + 1, 255
 EXTREME_AMOUNTS = 0, 1, LONGEST_TICK, LONGEST_TICK + 1, LAST_CLOCK
 
 
@@ -12,9 +14,14 @@ def packed_steps(steps):
     return b"".join(RECORD.pack(code, 0, amount) for code, amount in steps)
 
 
+def unlisted_codes(chance):
+    """Codes that are none: those at the ends, and one between."""
+    return (*UNLISTED, chance.randint(max(LISTED) + 2, 254))
+
+
 def unlisted_code(chance):
     """A code that is none."""
-    return chance.choice((0, 13, 255, chance.randint(14, 254)))
+    return chance.choice(unlisted_codes(chance))
 
 
 def tick_amount(chance):

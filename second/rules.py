@@ -1,4 +1,4 @@
-"""The rules of a shift: the limit table and its admission, the state, the phase table and the twelve steps."""
+"""The rules of a shift: the limit table and its admission, the state, the phase table and the thirteen steps."""
 
 from typing import NamedTuple, Optional
 
@@ -142,11 +142,11 @@ PHASES = {
 }
 ENGINE_PHASES = {phase for phase, row in PHASES.items() if row.when_asked}
 DEVICE_PHASES = PHASES.keys() - ENGINE_PHASES
-LAST_PHASES_TO_NEUTRAL = 19, 21
+BOX_WHEN_TAKEN = {SET: IN_GEAR, RELEASE: NEUTRAL}
 
 FROM_NEUTRAL, GEAR_TO_GEAR, TO_NEUTRAL = 1, 2, 3
 DELIVER, DEVICE_GOOD, DEVICE_FAILED, ENGINE_WAITS = 4, 5, 6, 7
-TAKE, ASK_CLUTCH, RAISE_ERROR, FINISH, TICK = 8, 9, 10, 11, 12
+TAKE, ASK_CLUTCH, RAISE_ERROR, FINISH, TICK, RESET = 8, 9, 10, 11, 12, 13
 
 
 class Request(NamedTuple):
@@ -176,6 +176,7 @@ ALLOWED = {
     RAISE_ERROR: (PHASES, {FAILED}),
     FINISH: ({DONE}, STAGES),
     TICK: (range(ERROR + 1), STAGES),
+    RESET: ({ERROR}, STAGES),
 }
 STAGE_AFTER = {DELIVER: WORKING, DEVICE_GOOD: GOOD, DEVICE_FAILED: FAILED, ENGINE_WAITS: WAITING}
 
@@ -227,21 +228,21 @@ def forbidden(table, state, code, amount):
 
 def enter(state, phase):
     """The state once the phase is entered."""
-    box, request_time = state.box, state.request_time
-    if phase == DONE:
-        box = NEUTRAL if state.phase in LAST_PHASES_TO_NEUTRAL else IN_GEAR
-    if phase == AT_REST:
-        request_time = 0
     return State(
         clock=state.clock,
-        box=box,
+        box=state.box,
         phase=phase,
         phase_time=state.clock,
         stage=SENT if phase in PHASES else NONE,
         stage_time=state.clock,
-        request_time=request_time,
+        request_time=0 if phase == AT_REST else state.request_time,
         failed_phase=state.phase if phase == ERROR else 0,
     )
+
+
+def box_when_taken(state):
+    """The box once the order of the phase is taken."""
+    return BOX_WHEN_TAKEN.get(PHASES[state.phase].order, state.box)
 
 
 def after(state, code, amount):
@@ -251,12 +252,12 @@ def after(state, code, amount):
     if code in STAGE_AFTER:
         return state._replace(stage=STAGE_AFTER[code], stage_time=state.clock)
     if code == TAKE:
-        return enter(state, PHASES[state.phase].when_taken)
+        return enter(state._replace(box=box_when_taken(state)), PHASES[state.phase].when_taken)
     if code == ASK_CLUTCH:
         return enter(state, PHASES[state.phase].when_asked)
     if code == RAISE_ERROR:
         return enter(state, ERROR)
-    if code == FINISH:
+    if code in (FINISH, RESET):
         return enter(state, AT_REST)
     return state._replace(clock=state.clock + amount)
 

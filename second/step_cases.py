@@ -6,12 +6,12 @@ from corpus import case_of
 from coverage import step_numbers
 from records import (
     EXTREME_AMOUNTS, LISTED, any_record, bad_amount, bad_records, good_amount, packed_steps, tick_amount,
-    unlisted_code,
+    unlisted_code, unlisted_codes,
 )
 from rules import (
     ALLOWED, ASK_CLUTCH, AT_REST, BOXES, DEFAULT, DONE, ENGINE_PHASES, ERROR, GOOD, LAST_CLOCK, LONGEST_TICK,
-    NOT_ALLOWED, PAST_PHASE_LIMIT, PAST_STAGE_LIMIT, PHASES, REQUESTS, STAGES, START, TAKE, TICK, TOO_LATE, WAITING,
-    State, Table, earliest_clock, forbidden, latest_clocks,
+    NOT_ALLOWED, PAST_PHASE_LIMIT, PAST_STAGE_LIMIT, PHASES, REQUESTS, RESET, STAGES, START, TAKE, TICK, TOO_LATE,
+    WAITING, State, Table, earliest_clock, forbidden, latest_clocks,
 )
 from search import first_found
 from tables import LARGEST_ENTRY, admitted_table, any_table, broken_table, edge_tables, good_table
@@ -126,6 +126,17 @@ def every_box(chance):
         yield from both(good_table(chance), free_state(chance, box=box, phase=AT_REST, stage=stage), code, 0)
 
 
+def every_reset(chance):
+    """Resets in error in every stage, with the box on either side, and in every phase with a good and a bad amount."""
+    for box, stage in product(BOXES, STAGES):
+        yield from both(good_table(chance), free_state(chance, box=box, phase=ERROR, stage=stage), RESET, 0)
+    for phase in range(ERROR + 1):
+        yield from both(good_table(chance), free_state(chance, phase=phase), RESET, 0)
+        table, state = good_table(chance), free_state(chance, phase=phase)
+        yield case_of("step", table, state, RESET, bad_amount(chance, RESET))
+        yield case_of("advance", table, state, chance.choice(bad_records(chance, RESET)))
+
+
 def every_amount(chance):
     """Every listed code on states that allow it, with amounts at the ends of what it may have."""
     for code, amount in product(LISTED, EXTREME_AMOUNTS):
@@ -142,7 +153,7 @@ def every_unlisted_field(chance):
 
 def neither_listed(chance):
     """Codes that are none on states that are not listed."""
-    for (field, least), code in product(LEAST_UNLISTED.items(), (0, 13, 255)):
+    for (field, least), code in product(LEAST_UNLISTED.items(), unlisted_codes(chance)):
         yield from both(good_table(chance), free_state(chance, **{field: least}), code, 0)
 
 
@@ -248,8 +259,8 @@ def refusals_in_order(chance):
         if bad_state:
             state = unlisted(chance, state)
         yield case_of("step", table, state, given, amount)
-        for four in bad_records(chance, code) if wrong_amount else [packed_steps([(code, amount)])]:
-            yield case_of("advance", table, state, bytes((given,)) + four[1:])
+        four = chance.choice(bad_records(chance, code)) if wrong_amount else packed_steps([(code, amount)])
+        yield case_of("advance", table, state, bytes((given,)) + four[1:])
 
 
 def demanded(chance):
@@ -258,6 +269,7 @@ def demanded(chance):
     yield from rules_at_their_edge(chance)
     yield from every_phase_and_stage(chance)
     yield from every_box(chance)
+    yield from every_reset(chance)
     yield from every_amount(chance)
     yield from every_unlisted_field(chance)
     yield from neither_listed(chance)

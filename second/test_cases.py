@@ -10,14 +10,17 @@ from unittest.mock import patch
 
 import compare
 import generator
+from corpus import case_of, worked
+from coverage import Coverage, marks, possible_cells
 from files import file_of, judge
 from generator import cases
 from records import packed_steps
-from rules import broken_rule, slacks
+from rules import DEFAULT, REQUESTS, START, State, broken_rule, slacks
 from search import MOST_TRIES, NotFound, first_found
 from tables import admitted_table, edge_tables
+from test_files import WOULD_NOT_CLOSE, written
 from versions import Wrong, loaded
-from walks import SHIFTS, lead, mixed, timed
+from walks import ROUNDS, SHIFTS, lead, leads, mixed, timed, walks_through_errors
 
 
 class Makers(unittest.TestCase):
@@ -36,17 +39,75 @@ class Makers(unittest.TestCase):
 
     def test_every_shift_is_accepted_at_any_pace(self):
         self.assertEqual([len(shifts) for shifts in SHIFTS.values()], [6, 12, 6])
-        for request, shifts in SHIFTS.items():
+        for request, shifts in ROUNDS.items():
             for shift in shifts:
                 table = admitted_table(self.chance)
                 for pace in (min, max, mixed(self.chance)):
                     steps = timed(table, lead(self.chance, request) + shift, pace)
-                    self.assertEqual(judge(file_of(table, packed_steps(steps)))[0], 0)
+                    number, _, _, state = judge(file_of(table, packed_steps(steps)))
+                    self.assertEqual((number, state.phase), (0, 0))
+
+    def test_leads(self):
+        self.assertEqual([len(leads(request)) for request in REQUESTS], [4, 3, 3])
+        for request in REQUESTS:
+            for codes in leads(request):
+                file = file_of(None, packed_steps(timed(DEFAULT, codes, min)))
+                self.assertEqual(judge(file)[3].box, REQUESTS[request].box)
+
+    def test_walks_through_errors(self):
+        walks = list(walks_through_errors(self.chance, admitted_table))
+        numbers = [judge(file_of(table, packed_steps(steps)))[0] for table, steps in walks]
+        self.assertEqual([numbers.count(number) for number in (0, 8)], [26, 25])
 
     def test_a_seed_makes_the_same_cases(self):
         first, again, other = (list(islice(cases(seed, 0), 200)) for seed in (7, 7, 8))
         self.assertEqual(first, again)
         self.assertNotEqual(first, other)
+
+
+class TheCoverage(unittest.TestCase):
+    def assert_marked(self, cells, *parts):
+        """A case covers at least these cells, and nothing that can't come up."""
+        found = marks(worked(case_of(*parts)))
+        self.assertLessEqual(cells, found)
+        self.assertLessEqual(found, set(possible_cells()))
+
+    def test_an_error_its_reset_and_the_next_request(self):
+        file = written(f"{WOULD_NOT_CLOSE} t1 13 t1 3 13")
+        self.assert_marked({
+            ("file takes", 4, "neutral, in gear"), ("errors", 5, "in gear"), ("errors", 5, "reset"),
+            ("errors", 5, "then 3"), ("resets", 23, "judge 0"), ("resets", 17, "judge 7"), ("judge", 0, 13),
+        }, "judge", file)
+        self.assert_marked({
+            ("place errors", 5, "in gear"), ("place errors", 5, "reset"), ("place errors", 5, "then 3"),
+            ("place resets", 5, "error"), ("place resets", 17, "sent"), ("events", "RESET", 0), ("manual", 7, 13),
+        }, "manual", DEFAULT, file[12:])
+
+    def test_single_resets_and_takes(self):
+        error = State(phase=23, stage=4, box=1)
+        self.assert_marked({("accepted resets", "failed", "step, in gear"), ("resets", 23, "step 0")},
+                           "step", DEFAULT, error, 13, 0)
+        self.assert_marked({("accepted resets", "failed", "advance, in gear"), ("resets", 23, "advance 0")},
+                           "advance", DEFAULT, error, b"\x0d\0\0\0")
+        self.assert_marked({("resets", 23, "advance 6")}, "advance", DEFAULT, error, b"\x0d\0\1\0")
+        self.assert_marked({("resets", 0, "step 7")}, "step", DEFAULT, START, 13, 0)
+        self.assert_marked({("takes", 5, "neutral, neutral")}, "step", DEFAULT, State(phase=5, stage=3), 8, 0)
+        self.assert_marked({("takes", 9, "neutral, neutral")}, "step", DEFAULT, State(phase=9, stage=3), 8, 0)
+
+    def test_codes(self):
+        self.assert_marked({("step", 5, 14)}, "step", DEFAULT, START, 14, 0)
+        self.assert_marked({("step", 5, "other")}, "step", DEFAULT, START, 15, 0)
+        self.assert_marked({("write", 0, 1), ("write", 0, 13)}, "write", 0, DEFAULT, [0, 0], b"\x01\x0d", bytes(20))
+        self.assert_marked({("write", 5, 14)}, "write", 0, DEFAULT, [0, 0], b"\x0d\x0e", bytes(20))
+        self.assert_marked({("write", 6, 13)}, "write", 0, DEFAULT, [1, 0], b"\x0d\x0e", bytes(20))
+
+    def test_what_did_not_come_up_is_missing(self):
+        coverage = Coverage()
+        coverage.add(worked(case_of("step", DEFAULT, State(phase=23), 13, 0)))
+        faults = list(coverage.faults())
+        self.assertEqual(len(faults), len(list(possible_cells())) - coverage.met())
+        self.assertIn("missing: numbers of resets, by phase: row 22, column step 7", faults)
+        self.assertNotIn("missing: numbers of resets, by phase: row 23, column step 0", faults)
 
 
 class Searches(unittest.TestCase):

@@ -7,6 +7,8 @@ from files import advance, fours, join, judge, lay_line, line, read, write
 from rules import DEFAULT, START, State
 
 K1 = "1 t5 4 t100 5 t5 8 4 t300 5 8 11"
+# The customer's case: the set order is taken in phase 4, and the clutch would not close in 5.
+WOULD_NOT_CLOSE = "1 4 7 t151 9 4 5 8 4 5 8 4 6 10"
 
 
 def lists(text):
@@ -73,8 +75,42 @@ class KnownRuns(unittest.TestCase):
     def test_k11(self):
         self.assert_run(f"{K1} 3 4 5 8 4 6 10 11", 7, 19, clock=410, phase=23, failed_phase=19, box=1, request_time=410)
 
-    def test_only_ticks_follow_an_error(self):
-        self.assert_run(f"{K1} 3 4 5 8 4 6 10 t9 1", 7, 20, clock=419, phase=23)
+    def test_only_ticks_and_a_reset_follow_an_error(self):
+        error = f"{K1} 3 4 5 8 4 6 10 t9"
+        for code in range(1, 12):
+            self.assert_run(f"{error} {code}", 7, 20, clock=419, phase=23)
+        self.assert_run(f"{error} 13 13", 7, 21, clock=419, phase=0, box=1)
+
+    def test_a_clutch_that_would_not_close(self):
+        error = {"clock": 151, "box": 1, "phase": 23, "phase_time": 151, "failed_phase": 5, "request_time": 0}
+        self.assert_run(WOULD_NOT_CLOSE, 0, 14, **error)
+        self.assert_run(f"t9 {WOULD_NOT_CLOSE}", 0, 15, clock=160, request_time=9, failed_phase=5, box=1)
+        at_rest = {"clock": 160, "box": 1, "phase": 0, "stage": 0, "request_time": 0, "failed_phase": 0}
+        self.assert_run(f"t9 {WOULD_NOT_CLOSE} 13", 0, 16, phase_time=160, stage_time=160, **at_rest)
+        self.assert_run(f"{WOULD_NOT_CLOSE} 13 1", 8, 15, phase=0, box=1)
+        self.assert_run(f"{WOULD_NOT_CLOSE} 13 2", 0, 16, phase=6, box=1)
+        self.assert_run(f"{WOULD_NOT_CLOSE} t3 13 t4 3", 0, 18, phase=17, request_time=158, failed_phase=0, box=1)
+
+    def test_a_reset_with_the_box_neutral(self):
+        self.assert_run("1 4 5 8 4 6 10 13", 0, 8, **START._asdict())
+        self.assert_run("1 4 5 8 4 6 10 13 3", 8, 8, phase=0, box=0)
+        self.assert_run("1 4 5 8 4 6 10 13 1", 0, 9, phase=1, box=0)
+
+    def test_the_box_along_gear_to_gear(self):
+        without = f"{K1} 2 4 5 8 4 5 8"
+        self.assert_run(without, 0, 19, phase=10, box=0)
+        self.assert_run(f"{without} 4 5 8 4 6 10", 0, 25, phase=23, failed_phase=12, box=0)
+        self.assert_run(f"{without} 4 5 8 4 5 8", 0, 25, phase=22, box=1)
+        asked = f"{K1} 2 4 7 t251 9 4 5 8 4 5 8"
+        self.assert_run(asked, 0, 23, phase=14, box=0)
+        self.assert_run(f"{asked} 4 5 8", 0, 26, phase=16, box=1)
+        self.assert_run(f"{asked} 4 5 8 4 6 10 13 2", 0, 31, phase=6, box=1)
+
+    def test_the_box_along_to_neutral(self):
+        asked = f"{K1} 3 4 7 t251 9 4 5 8"
+        self.assert_run(asked, 0, 20, phase=20, box=1)
+        self.assert_run(f"{asked} 4 5 8", 0, 23, phase=21, box=0)
+        self.assert_run(f"{asked} 4 5 8 4 6 10 13 1", 0, 28, phase=1, box=0)
 
 
 class Lines(unittest.TestCase):
@@ -82,6 +118,8 @@ class Lines(unittest.TestCase):
         self.assertEqual(len(written(K1)), 60)
         self.assertEqual(line(written(K1)), b"accepted 12 0 410 0 1\n")
         self.assertEqual(line(written("1 4 7 t150 9")), b"refused 4 9 150 1 0\n")
+        self.assertEqual(line(written(WOULD_NOT_CLOSE)), b"accepted 14 0 151 23 1\n")
+        self.assertEqual(line(written(f"{WOULD_NOT_CLOSE} 13")), b"accepted 15 0 151 0 1\n")
         self.assertEqual(line(b""), b"unread 0 1 0 0 0\n")
 
     def test_room(self):
@@ -125,7 +163,10 @@ class Reading(unittest.TestCase):
         def refused(four):
             return judge(written("t7 t8")[:16] + four)[:3] + (advance(DEFAULT, START, four)[0],)
 
-        self.assertEqual(refused(bytes((13, 9, 0, 0))), (5, 0, 1, 5))
+        self.assertEqual(refused(bytes((14, 9, 0, 0))), (5, 0, 1, 5))
+        self.assertEqual(refused(bytes((13, 9, 0, 0))), (6, 0, 1, 6))
+        self.assertEqual(refused(bytes((13, 0, 1, 0))), (6, 0, 1, 6))
+        self.assertEqual(refused(bytes((13, 0, 0, 0))), (7, 0, 1, 7))
         self.assertEqual(refused(bytes((0, 0, 0, 0))), (5, 0, 1, 5))
         self.assertEqual(refused(bytes((12, 1, 1, 0))), (6, 0, 1, 6))
         self.assertEqual(refused(bytes((12, 0, 0, 0))), (6, 0, 1, 6))
@@ -141,9 +182,9 @@ class Writing(unittest.TestCase):
 
     def test_round_trip(self):
         for table in (None, DEFAULT, DEFAULT._replace(ChangeDL=1405)):
-            codes, amounts = lists(K1)
+            codes, amounts = lists(f"{K1} 13")
             number, rule, index, length, buffer = write(table, codes, amounts, b"x" * 200)
-            self.assertEqual((number, rule, index, length), (0, 0, 0, 60 if table is None else 96))
+            self.assertEqual((number, rule, index, length), (0, 0, 0, 64 if table is None else 100))
             self.assertEqual(buffer[length:], b"x" * (200 - length))
             _, _, got, records = read(buffer[:length])
             self.assertEqual(got, table or DEFAULT)
@@ -159,7 +200,9 @@ class Writing(unittest.TestCase):
         self.assertEqual(self.refused(broken, bytes(many), [0] * (many + 1)), (3, 0, 0))
         self.assertEqual(self.refused(broken, bytes(many), [0] * many), (2, 0, 0))
         self.assertEqual(self.refused(broken, bytes(3), [0] * 3), (4, 14, 0))
-        self.assertEqual(self.refused(DEFAULT, b"\x01\x00\x0d", [0] * 3), (5, 0, 1))
+        self.assertEqual(self.refused(DEFAULT, b"\x01\x00\x0e", [0] * 3), (5, 0, 1))
+        self.assertEqual(self.refused(DEFAULT, b"\x0d\x0e", [0] * 2), (5, 0, 1))
+        self.assertEqual(self.refused(DEFAULT, b"\x0d\x0d", [0, 1]), (6, 0, 1))
         self.assertEqual(self.refused(None, b"\x01\x0c\x00", [0] * 3), (6, 0, 1))
         self.assertEqual(self.refused(None, b"\x01\x0c", [0, 65_536]), (6, 0, 1))
 

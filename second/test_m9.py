@@ -4,17 +4,21 @@ import random
 import unittest
 
 import m9
+import m9_printed
 import rules
 from files import run
-from m9 import BOOLS, EVENTS, INITIALISATION, LIMITS, M9, NAMES_BY_CODE, NATURALS, ORDERS, START, Machine, reading
+from m9 import (
+    BOOLS, EVENTS, FINAL_FLAGS, INITIALISATION, LIMITS, M9, NAMES_BY_CODE, NATURALS, ORDERS, PRINTED_EVENTS, START,
+    Machine, reading,
+)
 from places import PLACES, place_of, ways
 from reached import SEARCHED, first_change, reached, stop
 from records import LISTED, good_amount, packed_steps
 from rules import DEFAULT, LAST_CLOCK, PHASES, Table
-from settlements import ADDED, SETTLEMENTS
+from settlements import ADDED, REQUESTED, SETTLED_ACTIONS, SETTLEMENTS
 from tables import good_table
-from test_files import K1, lists
-from walks import SHIFTS, any_walk, lead, mixed, timed
+from test_files import K1, WOULD_NOT_CLOSE, lists
+from walks import ROUNDS, any_walk, lead, mixed, timed, walks_through_errors
 
 
 def steps(text):
@@ -30,26 +34,27 @@ def ran(text, machine=M9, table=DEFAULT):
 
 
 def without(event, label):
-    """The machine with one guard as printed."""
-    off = [settlement for settlement in SETTLEMENTS if (settlement.event, settlement.label) == (event, label)]
+    """The machine with one guard or action as printed."""
+    off = [settlement for settlement in SETTLEMENTS + SETTLED_ACTIONS if settlement[:2] == (event, label)]
     assert len(off) == 1
     return Machine(off)
 
 
 class AsPrinted(unittest.TestCase):
     def test_counts(self):
-        printed = [guard for event in EVENTS.values() for guard in event.guards if guard.label != ADDED]
+        guards, actions = ([clause for event in PRINTED_EVENTS for clause in clauses(event) if clause.printed]
+                           for clauses in (lambda event: event.guards, lambda event: event.actions))
         self.assertEqual((len(START), len(BOOLS), len(NATURALS)), (98, 64, 34))
-        self.assertEqual((len(EVENTS), len(printed), len(INITIALISATION)), (65, 272, 98))
-        self.assertEqual(sum(len(event.actions) for event in EVENTS.values()), 143)
+        self.assertEqual((len(PRINTED_EVENTS), len(guards), len(actions), len(INITIALISATION)), (65, 272, 143, 98))
+        self.assertEqual(list(EVENTS), [*(event.name for event in PRINTED_EVENTS), "RESET"])
         self.assertEqual([len(EVENTS["Tick_Tock"].guards), len(EVENTS["FINAL"].actions)], [55, 42])
 
     def test_labels_count_on(self):
         for event in EVENTS.values():
             guards = [guard.label for guard in event.guards if guard.label != ADDED]
+            actions = [action.label for action in event.actions if action.label != REQUESTED]
             self.assertEqual(guards, [f"grd{number}" for number in range(1, len(guards) + 1)])
-            self.assertEqual([action.label for action in event.actions],
-                             [f"act{number}" for number in range(1, len(event.actions) + 1)])
+            self.assertEqual(actions, [f"act{number}" for number in range(1, len(actions) + 1)])
 
     def test_initialisation_sets_each_variable_once(self):
         self.assertEqual(sorted(action.variable for action in INITIALISATION), sorted(START))
@@ -63,7 +68,7 @@ class AsPrinted(unittest.TestCase):
         self.assertEqual({action.value for action in EVENTS["FINAL"].actions}, {"FALSE"})
 
     def test_names_in_formulas_are_variables_and_limits(self):
-        for machine in (M9, Machine(SETTLEMENTS)):
+        for machine in (M9, Machine(SETTLEMENTS + SETTLED_ACTIONS)):
             events = sum(machine.events.values(), [])
             for needs in [event.flags for event in events] + [deadline.flags for deadline in machine.deadlines]:
                 self.assertLessEqual({*needs.up, *needs.down, *sum(needs.either, ())}, set(BOOLS) - {"isNeu"})
@@ -76,13 +81,50 @@ class AsPrinted(unittest.TestCase):
 
 
 class Settled(unittest.TestCase):
-    def test_each_changes_a_guard(self):
-        self.assertEqual(len({settlement[:2] for settlement in SETTLEMENTS}), len(SETTLEMENTS))
-        changed = {(event.name, guard.label) for event in EVENTS.values() for guard in event.guards if guard.why}
-        self.assertEqual(changed, {settlement[:2] for settlement in SETTLEMENTS})
-        for event in EVENTS.values():
-            for guard in event.guards:
-                self.assertEqual(bool(guard.why), guard.printed != guard.stands)
+    def assert_changed(self, settlements, clauses):
+        """Of the manual's events just these guards or actions stand otherwise than printed, as they are settled."""
+        changed = {(event.name, clause.label): clause.stands for event in PRINTED_EVENTS for clause in clauses(event)
+                   if clause.why}
+        self.assertEqual(changed, {settlement[:2]: settlement.stands for settlement in settlements})
+        self.assertEqual(len(changed), len(settlements))
+        for event in PRINTED_EVENTS:
+            for clause in clauses(event):
+                self.assertEqual(bool(clause.why), clause.printed != clause.stands)
+
+    def test_each_changes_a_guard_or_an_action(self):
+        self.assert_changed(SETTLEMENTS, lambda event: event.guards)
+        self.assert_changed(SETTLED_ACTIONS, lambda event: event.actions)
+
+    def test_taking_a_gear_s_order_moves_the_box_and_nothing_else_does(self):
+        moved = {event.name: action.value for event in EVENTS.values() for action in event.actions
+                 if action.variable == "isNeu" and action.value}
+        values = {"SET": "FALSE", "RELEASE": "TRUE"}
+        self.assertEqual(moved, {order.taken: values[name] for order in ORDERS.values() for name in values
+                                 if order.device == getattr(m9, name)})
+        self.assertEqual(len(moved), 9)
+        added = [settlement for settlement in SETTLED_ACTIONS if settlement.label == REQUESTED]
+        self.assertEqual((len(added), len(SETTLED_ACTIONS) - len(added)), (7, 2))
+
+    def test_reset_is_not_the_manual_s(self):
+        guard, = EVENTS["RESET"].guards
+        self.assertNotIn("RESET", m9_printed.EVENTS)
+        self.assertTrue(all(clause.printed is None and clause.why for clause in (guard, *EVENTS["RESET"].actions)))
+        raised = [order.error() for order in ORDERS.values() if order.error()]
+        self.assertEqual(guard.stands, " ∨ ".join(f"{flag} = TRUE" for flag in BOOLS if flag in raised))
+        self.assertEqual(len(raised), 17)
+        self.assertEqual([action.stands for action in EVENTS["RESET"].actions],
+                         [f"{flag} := FALSE" for flag in BOOLS if flag != "isNeu"])
+        self.assertEqual(len(EVENTS["RESET"].actions), 63)
+
+    def test_actions_as_printed(self):
+        error = reading(ran(WOULD_NOT_CLOSE)[2])
+        self.assertEqual((error.phase, error.box), (23, 1))
+        self.assertEqual(reading(ran(WOULD_NOT_CLOSE, without("FromNeu_SetGear_Clutch", REQUESTED))[2]).box, 0)
+        both = [without("FromNeu_SetGear_Clutch", REQUESTED), Machine(SETTLED_ACTIONS)]
+        closed = "1 4 7 t151 9 4 5 8 4 5 8 4 5 8"
+        self.assertEqual([reading(ran(closed, machine)[2]).box for machine in (M9, *both)], [1, 0, 1])
+        released = f"{K1} 2 4 5 8 4 5 8"
+        self.assertEqual([reading(ran(released, machine)[2]).box for machine in (M9, *both)], [0, 0, 1])
 
     def test_all_errors_ask_for_their_device_s_error(self):
         for order in ORDERS.values():
@@ -114,12 +156,12 @@ class Settled(unittest.TestCase):
 
 class Codes(unittest.TestCase):
     def test_each_event_has_one_code(self):
-        self.assertEqual([len(NAMES_BY_CODE[code]) for code in LISTED], [1, 1, 1, 6, 6, 4, 2, 21, 4, 17, 1, 1])
+        self.assertEqual([len(NAMES_BY_CODE[code]) for code in LISTED], [1, 1, 1, 6, 6, 4, 2, 21, 4, 17, 1, 1, 1])
         self.assertEqual(sorted(name for names in NAMES_BY_CODE.values() for name in names), sorted(EVENTS))
 
     def test_an_event_raises_the_flag_that_it_is_named_by(self):
         for event in EVENTS.values():
-            if event.name not in ("FINAL", "Tick_Tock"):
+            if event.name not in ("FINAL", "Tick_Tock", "RESET"):
                 self.assertEqual((event.actions[0].variable, event.actions[0].value), (event.name, "TRUE"))
 
     def test_orders_are_the_phases(self):
@@ -134,7 +176,7 @@ class KnownRuns(unittest.TestCase):
         for text, number, accepted in (
             (K1, 0, 12), ("", 0, 0), ("1 t6", 12, 1), ("1 t5", 0, 2), ("1 t5 4 t101", 12, 3), ("1 4 7 t150 9", 9, 4),
             ("1 4 7 t151 9", 0, 5), ("1 4 7 t156", 11, 3), ("1 4 7 t155", 0, 4), ("2", 8, 0), ("1 1", 7, 1),
-            ("1 4 6", 7, 2), (f"{K1} 3 4 5 8 4 6 10 11", 7, 19),
+            ("1 4 6", 7, 2), (f"{K1} 3 4 5 8 4 6 10 11", 7, 19), (f"{WOULD_NOT_CLOSE} 13 3", 0, 16),
         ):
             self.assertEqual(ran(text)[:2], (number, accepted))
 
@@ -143,6 +185,9 @@ class KnownRuns(unittest.TestCase):
         self.assertEqual(reading(ran("1 4 7 t151 9")[2]), (151, 0, 2, 1, 151, 151, 0))
         self.assertEqual(reading(ran("t7 1 t2 4 7 t3")[2]), (12, 0, 1, 5, 7, 0, 7))
         self.assertEqual(reading(ran(f"{K1} 3 4 5 8 4 6 10 11")[2]), (410, 1, 23, 0, 0, 0, 0))
+        self.assertEqual(reading(ran(WOULD_NOT_CLOSE)[2]), (151, 1, 23, 0, 0, 0, 0))
+        self.assertEqual(reading(ran(f"{WOULD_NOT_CLOSE} 13")[2]), (151, 1, 0, 0, 0, 0, 0))
+        self.assertEqual(reading(ran(f"{WOULD_NOT_CLOSE} 13 t4 3")[2]), (155, 1, 17, 1, 155, 155, 155))
 
     def test_flags_that_are_up(self):
         variables = ran("t9 1 t5 4 t9 5 t3 8 t1")[2]
@@ -160,12 +205,26 @@ class KnownRuns(unittest.TestCase):
             "Gear_SetT"])
 
 
+    def test_reset_lowers_every_flag_and_keeps_the_box_and_the_times(self):
+        up = set()
+        for table, steps_to in walks_through_errors(random.Random(4), good_table):
+            variables = START
+            for code, amount in steps_to:
+                before, variables = variables, m9.step(table, variables, code, amount)[2]
+                if code == 13:
+                    up.update(name for name in BOOLS if before[name])
+                    kept = {name: before[name] for name in ("isNeu", *NATURALS)}
+                    self.assertEqual(variables, {**START, **kept})
+        self.assertEqual(set(BOOLS) - up, {*FINAL_FLAGS, "Clutch_Close"})
+
+
 class Refusals(unittest.TestCase):
     def test_table_then_code_then_amount_then_flags(self):
         broken = DEFAULT._replace(ChangeDL=1404)
         self.assertEqual(m9.step(broken, START, 99, 99), (4, 14, START))
-        unread = (0, 9), (13, 0), (8, 1), (8, 0, 1), (12, 0)
-        self.assertEqual([m9.step(DEFAULT, START, *given)[0] for given in unread], [5, 5, 6, 6, 6])
+        unread = (0, 9), (14, 0), (8, 1), (8, 0, 1), (12, 0), (13, 1), (13, 0, 1)
+        self.assertEqual([m9.step(DEFAULT, START, *given)[0] for given in unread], [5, 5, 6, 6, 6, 6, 6])
+        self.assertEqual(m9.step(DEFAULT, START, 13, 0)[0], 7)
         self.assertEqual([m9.step(DEFAULT, START, code, 0)[0] for code in range(1, 12)], [0, 8, 8] + [7] * 8)
 
     def test_the_last_clock_comes_before_deadlines(self):
@@ -225,6 +284,13 @@ class TheSearch(unittest.TestCase):
         self.assertEqual(first_change(waits, table, states), (((1, 0), (9, 0)), 9, 7))
         self.assertIsNone(stop(waits, table, ticks))
 
+    def test_an_action_that_is_off_is_found_where_it_shows(self):
+        table, ticks = SEARCHED["default"]
+        states = list(reached(M9, table, ticks))
+        taken, closed = SETTLED_ACTIONS[:2]
+        self.assertEqual(first_change(taken, table, states), (tuple(steps("1 4 7 t151 9 4 5 8 4 5 8")), 0, 0))
+        self.assertIsNone(first_change(closed, table, states))
+
 
 class BesideTheRules(unittest.TestCase):
     def assert_same(self, table, variables, state, *given):
@@ -247,15 +313,22 @@ class BesideTheRules(unittest.TestCase):
         for given in walk:
             for code in LISTED:
                 self.assert_same(table, variables, state, code, good_amount(chance, code))
-            self.assert_same(table, variables, state, chance.randint(0, 15), chance.randint(0, 1), chance.randint(0, 1))
+            self.assert_same(table, variables, state, chance.randint(0, 16), chance.randint(0, 1), chance.randint(0, 1))
             variables, state = self.assert_same(table, variables, state, *given)
 
     def test_every_shift(self):
         chance = random.Random(0)
-        for request, shifts in SHIFTS.items():
+        for request, shifts in ROUNDS.items():
             for shift in shifts:
                 table = good_table(chance)
                 self.assert_walk(chance, table, timed(table, lead(chance, request) + shift, mixed(chance)))
+
+    def test_through_every_error(self):
+        chance = random.Random(5)
+        for table, walk in walks_through_errors(chance, good_table):
+            variables, state = START, rules.START
+            for given in walk:
+                variables, state = self.assert_same(table, variables, state, *given)
 
     def test_walks_by_chance(self):
         chance = random.Random(1)
@@ -265,7 +338,7 @@ class BesideTheRules(unittest.TestCase):
 
     def test_at_most_one_event_of_a_code_is_enabled_along_walks(self):
         chance = random.Random(2)
-        for request, shifts in SHIFTS.items():
+        for request, shifts in ROUNDS.items():
             for shift in shifts:
                 variables = START
                 for given in timed(DEFAULT, lead(chance, request) + shift, mixed(chance)):

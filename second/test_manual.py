@@ -10,11 +10,11 @@ from unittest.mock import patch
 
 import m9_text
 import manual_page
-from m9_text import EVENT_CODE, NAMES, SPECS, STEPS, STRUCT, TICK_CODE, TICKS, VARIABLES
+from m9_text import EVENT_CODE, NAMES, RESETS, SPECS, STEPS, STRUCT, TICK_CODE, TICKS, VARIABLES
 from versions import HERE
 
 FROM, GEARS, DEVICES, FINAL = (f"{SPECS}/{name}.antt" for name in ("FromNeutral", "GearToGear", "Devices", "Final"))
-NEUTRAL_CODE, DEVICE_CODE = EVENT_CODE["manual_neutral"], EVENT_CODE["manual_devices"]
+NEUTRAL_CODE, DEVICE_CODE, GEAR_CODE = (EVENT_CODE[f"manual_{name}"] for name in ("neutral", "devices", "gears"))
 
 IS_GOOD, LATE = "(v .«Engine_SyncSpeed» ! 7)  -- grd4", "(leb (v .time) (v .RequestFromNeuT + t .«sync_ex») ! 10)"
 WHY = "; 01: the delay of an engine that synchronizes; printed OpenClutch_Zero_DE"
@@ -33,6 +33,17 @@ EDITS = [
     (FROM, "abbrev pub «FromNeu_CloseClutch»", "-- «FromNeu_CloseClutch»", "the events in order"),
     (GEARS, "«NoNeu_RequestOpenClutch_Releasing» ! 7)  -- grd1; 01", "«NoNeu_OpenClutch_Releasing» ! 7)  -- grd1; 01",
      "NoNeu_OpenClutch_Releasing grd1"),
+    (FROM, "    ∷ setNeu false  -- 02:", "    ∷ setNeu true  -- 02:", "FromNeu_SetGear_Clutch 02"),
+    (FROM, "setNeu false  -- 02: taking a set order makes the box in gear; not printed", "setNeu false  -- act3",
+     "FromNeu_SetGear_Clutch: its labels in order"),
+    (FROM, "    -- act2; 02: left out", "    ∷ setNeu false  -- act2; 02: left out", "FromNeu_CloseClutch act2"),
+    (FROM, "printed isNeu := FALSE", "printed isNeu := TRUE", "FromNeu_CloseClutch act2"),
+    (GEARS, "    ∷ setNeu true  -- 02: taking a release order makes the box neutral; not printed\n", "",
+     "NoNeu_Release_NoClutch 02"),
+    (RESETS, "    || v .«Error_NoNeu_CloseClutch_Setting»\n", "", "RESET grd1"),
+    (RESETS, "(erred v ! 7)", "(erred v ! 8)", "RESET grd1"),
+    (RESETS, "(λ (f : Flag). false)", "(λ (f : Flag). true)", "RESET act1"),
+    (RESETS, "lowerAll v = variables (v .time) (v .isNeu)", "lowerAll v = variables (v .time) true", "RESET act63"),
     (DEVICES, "v .RequestFromNeu || v .«NoNeu_Release_NoClutch»", "v .RequestFromNeu || v .«NoNeu_Release_Clutch»",
      "Engine_Request_SyncSpeed grd1"),
     (FINAL, "lower Flag.«Gear_Request_Set»", "raise Flag.«Gear_Request_Set»", "FINAL act42"),
@@ -50,6 +61,7 @@ EDITS = [
     (STEPS, "(takeToNeutral t v ∷ takeGearToGear t v ∷ [])", "(takeGearToGear t v ∷ takeToNeutral t v ∷ [])",
      "step Take"),
     (STEPS, "stepped t v Finish = FINAL v", "stepped t v Finish = RequestToNeu v", "step Finish"),
+    (STEPS, "stepped t v Reset = RESET v", "stepped t v Reset = FINAL v", "step Reset"),
     (NAMES, "flagNumber «Gear_Set» = 71", "flagNumber «Gear_Set» = 72", "number of Gear_Set"),
     (NAMES, "  RequestNoNeu : Flag\n  RequestToNeu : Flag\n", "  RequestToNeu : Flag\n  RequestNoNeu : Flag\n",
      "the flags in order"),
@@ -65,6 +77,10 @@ EDITS = [
      "the events of manual_neutral in order"),
     (DEVICE_CODE, "on_side(v.isNeu); // grd4", "on_side(!v.isNeu); // grd4", "RequestFromNeu grd4"),
     (DEVICE_CODE, "    v.Gear_Request_Set = false; // act42\n", "", "FINAL act42"),
+    (DEVICE_CODE, "    v.Error_Gear_Set = false;\n", "", "RESET act53"),
+    (DEVICE_CODE, "\n        | v.Error_NoNeu_CloseClutch_Setting;", ";", "RESET grd1"),
+    (GEAR_CODE, "v.isNeu = true; // 02", "v.isNeu = false; // 02", "NoNeu_Release_NoClutch 02"),
+    (NEUTRAL_CODE, "    // act2; 02: left out", "    v.isNeu = false; // act2; 02: left out", "FromNeu_CloseClutch act2"),
     (TICK_CODE, "        table.gear_set_dl,", "        table.gear_release_dl,", "Tick_Tock grd55"),
     (TICK_CODE, "        return 12;", "        return 11;", "Tick_Tock grd55"),
     (TICK_CODE, "; 01: until the order is delivered; printed Gear_Set", "", "Tick_Tock grd46"),

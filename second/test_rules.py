@@ -80,7 +80,8 @@ class SingleSteps(unittest.TestCase):
     def test_code_comes_before_amount_and_amount_before_state(self):
         wild = State(phase=99)
         self.assertEqual(self.number(wild, 0, 1), 5)
-        self.assertEqual(self.number(wild, 13, 1), 5)
+        self.assertEqual(self.number(wild, 14, 1), 5)
+        self.assertEqual(self.number(wild, 255, 1), 5)
         self.assertEqual(self.number(wild, 1, 1), 6)
         self.assertEqual(self.number(wild, 1), 7)
 
@@ -88,15 +89,17 @@ class SingleSteps(unittest.TestCase):
         ticks = [self.number(START, 12, amount) for amount in (0, 1, 65_535, 65_536, LAST_CLOCK)]
         self.assertEqual(ticks, [6, 0, 0, 6, 6])
         self.assertEqual([self.number(START, 1, amount) for amount in (0, 1, 65_536)], [0, 6, 6])
+        self.assertEqual([self.number(State(phase=23), 13, amount) for amount in (0, 1, 65_536)], [0, 6, 6])
 
     def test_unlisted_states(self):
         for wild in (START._replace(phase=24), START._replace(stage=6), START._replace(box=2)):
             self.assertEqual([self.number(wild, 1), self.number(wild._replace(clock=LAST_CLOCK), 12, 1)], [7, 7])
         self.assertEqual(self.number(START._replace(failed_phase=255), 1), 0)
 
-    def test_any_listed_stage_at_rest_and_in_done(self):
+    def test_any_listed_stage_at_rest_in_done_and_in_error(self):
         self.assertEqual([self.number(START._replace(stage=stage), 1) for stage in range(7)], [0] * 6 + [7])
         self.assertEqual([self.number(State(phase=22, stage=stage), 11) for stage in range(7)], [0] * 6 + [7])
+        self.assertEqual([self.number(State(phase=23, stage=stage), 13) for stage in range(7)], [0] * 6 + [7])
 
     def test_box_on_the_wrong_side(self):
         self.assertEqual([self.number(START, code) for code in (1, 2, 3)], [0, 8, 8])
@@ -107,14 +110,39 @@ class SingleSteps(unittest.TestCase):
         after = State(clock=9, phase=23, phase_time=9, stage_time=9, request_time=2, failed_phase=1)
         self.assertEqual(step(DEFAULT, failed, 10, 0), (0, 0, after))
 
-    def test_box_after_done(self):
-        to_done = [phase for phase, row in PHASES.items() if row.when_taken == 22]
-        after = {phase: step(DEFAULT, State(phase=phase, stage=3), 8, 0)[2].box for phase in to_done}
-        self.assertEqual(after, {3: 1, 5: 1, 12: 1, 15: 1, 16: 1, 19: 0, 21: 0})
+    def test_taking_set_makes_the_box_in_gear_and_taking_release_neutral(self):
+        boxes = {phase: [step(DEFAULT, State(phase=phase, stage=3, box=box), 8, 0)[2].box for box in (0, 1)]
+                 for phase in PHASES}
+        moved = {phase: after for phase, after in boxes.items() if after != [0, 1]}
+        self.assertEqual(moved, {3: [1, 1], 4: [1, 1], 8: [0, 0], 9: [0, 0], 12: [1, 1], 13: [1, 1], 14: [1, 1],
+                                 19: [0, 0], 20: [0, 0]})
+
+    def test_no_other_step_moves_the_box(self):
+        steps = [(code, phase, stage) for phase in PHASES for code, stage in ((4, 1), (5, 2), (10, 4))]
+        steps += [(6, phase, 2) for phase in PHASES if phase not in ENGINE_PHASES]
+        steps += [(code, phase, stage) for phase in ENGINE_PHASES for code, stage in ((7, 2), (9, 5))]
+        for code, phase, stage in steps + [(11, 22, 0), (12, 0, 0), (12, 3, 1), (12, 23, 0), (13, 23, 0)]:
+            for box in (0, 1):
+                state = State(clock=251, phase=phase, phase_time=0 if code == 9 else 251, stage=stage, stage_time=251)
+                number, _, after = step(DEFAULT, state._replace(box=box), code, int(code == 12))
+                self.assertEqual((number, after.box), (0, box))
+        for code, box in ((1, 0), (2, 1), (3, 1)):
+            self.assertEqual(step(DEFAULT, State(box=box), code, 0)[2].box, box)
 
     def test_finish_clears_request_time_and_failed_phase(self):
         done = State(clock=7, box=1, phase=22, phase_time=5, stage_time=5, request_time=3, failed_phase=9)
         self.assertEqual(step(DEFAULT, done, 11, 0), (0, 0, State(clock=7, box=1, phase_time=7, stage_time=7)))
+
+    def test_reset_enters_0_and_keeps_the_box(self):
+        for box in (0, 1):
+            error = State(7, box, 23, phase_time=5, stage=2, stage_time=4, request_time=3, failed_phase=9)
+            self.assertEqual(step(DEFAULT, error, 13, 0), (0, 0, State(clock=7, box=box, phase_time=7, stage_time=7)))
+
+    def test_reset_in_error_alone(self):
+        others = [State(phase=phase, stage=stage) for phase in range(23) for stage in range(6)]
+        self.assertEqual([self.number(state, 13) for state in others], [7] * len(others))
+        self.assertEqual([self.number(State(phase=24), 13), self.number(State(phase=23, box=2), 13)], [7, 7])
+        self.assertEqual(self.number(State(clock=LAST_CLOCK, phase=23), 13), 0)
 
     def test_tick_order(self):
         late = State(clock=LAST_CLOCK, phase=1, stage=1)

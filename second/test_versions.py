@@ -1,13 +1,14 @@
 """Tests of wrong versions: the list, how one is loaded and tried, and the measure over them."""
 
 import io
+import random
 import sys
 import time
 import unittest
 from contextlib import redirect_stdout
 from importlib.machinery import SourceFileLoader
 from importlib.util import module_from_spec, spec_from_loader
-from itertools import islice
+from itertools import islice, takewhile
 from unittest.mock import Mock, patch
 
 import rules
@@ -15,7 +16,9 @@ import stored
 from corpus import Case, worked
 from generator import cases
 from search import NotFound
+from tables import good_table
 from versions import HERE, WRONG_VERSIONS, NoSuchPlace, TooLong, Wrong, at_most, cases_needed, loaded, wrong_source
+from walks import any_walk
 
 RULE_8 = Wrong("rule 8 never breaks", "rules.py", "if slack < 0", "if slack < 0 and rule != 8")
 HARMLESS = Wrong("nothing", "rules.py", "if slack < 0", "if 0 > slack")
@@ -82,6 +85,22 @@ class Loading(unittest.TestCase):
         begun = time.process_time()
         while time.process_time() < begun + 0.1:
             pass
+
+
+class TheOldBox(unittest.TestCase):
+    def test_old_and_new_agree_at_rest_and_in_done(self):
+        old, = (loaded("rules", wrong) for wrong in WRONG_VERSIONS
+                if wrong.what == "entering 22 moves the box and taking doesn't")
+        chance, compared, differing = random.Random(0), set(), set()
+        for table, walk in [(table, any_walk(chance, table)) for table in (good_table(chance) for _ in range(200))]:
+            before, now = old.START, rules.START
+            for given in takewhile(lambda step: step[0] != rules.RESET, walk):
+                (old_number, before), (number, now) = (each.admitted_step(table, state, *given)
+                                                       for each, state in ((old, before), (rules, now)))
+                self.assertEqual((old_number, before._replace(box=0)), (number, now._replace(box=0)))
+                (compared if before.box == now.box else differing).add(now.phase)
+        self.assertEqual(compared | differing, set(range(24)))
+        self.assertEqual(differing, {5, 10, 11, 12, 13, 14, 21, 23})
 
 
 class TheStoredCorpus(unittest.TestCase):

@@ -1,8 +1,10 @@
 """Walks: lists of steps, each a code and an amount, from the start through every way of a shift."""
 
+from functools import lru_cache
+
 from rules import (
-    ASK_CLUTCH, DELIVER, DEVICE_FAILED, DEVICE_GOOD, DONE, ENGINE_WAITS, FINISH, FROM_NEUTRAL, GEAR_TO_GEAR,
-    LONGEST_TICK, PHASES, RAISE_ERROR, REQUESTS, START, TAKE, TICK, TO_NEUTRAL, WAITING,
+    ASK_CLUTCH, DEFAULT, DELIVER, DEVICE_FAILED, DEVICE_GOOD, DONE, ENGINE_WAITS, FINISH, FROM_NEUTRAL, GEAR_TO_GEAR,
+    IN_GEAR, LONGEST_TICK, NEUTRAL, PHASES, RAISE_ERROR, REQUESTS, RESET, START, TAKE, TICK, TO_NEUTRAL, WAITING,
     admitted_step, earliest_clock, latest_clocks,
 )
 from search import NotFound
@@ -25,14 +27,39 @@ def ways(phase, passed=()):
     return found + [(DELIVER, DEVICE_FAILED, RAISE_ERROR)]
 
 
-# The shifts that each request can lead to, and those of them that end at rest.
+def to_rest(shift):
+    """The shift up to rest: an error is reset."""
+    return shift if shift[-1] == FINISH else (*shift, RESET)
+
+
+# The shifts that each request can lead to, those of them that are finished, and all of them up to rest.
 SHIFTS = {code: [(code, *way) for way in ways(request.phase)] for code, request in REQUESTS.items()}
 FINISHED = {code: [shift for shift in shifts if shift[-1] == FINISH] for code, shifts in SHIFTS.items()}
+ROUNDS = {code: list(map(to_rest, shifts)) for code, shifts in SHIFTS.items()}
+
+
+@lru_cache(None)
+def box_after(shift):
+    """The box that a shift leaves."""
+    before = () if shift[0] == FROM_NEUTRAL else FINISHED[FROM_NEUTRAL][0]
+    return states(DEFAULT, timed(DEFAULT, before + shift, min))[-1].box
+
+
+def requests_at(box):
+    """The requests that are made with this box."""
+    return (FROM_NEUTRAL,) if box == NEUTRAL else (GEAR_TO_GEAR, TO_NEUTRAL)
+
+
+def leads(request):
+    """The ways from the start to rest with the box that the request needs: none at all, or one shift from neutral."""
+    box = NEUTRAL if request in requests_at(NEUTRAL) else IN_GEAR
+    found = [shift for shift in ROUNDS[FROM_NEUTRAL] if box_after(shift) == box]
+    return [(), *found] if box == START.box else found
 
 
 def lead(chance, request):
     """The codes that bring the box from the start to the side that the request needs."""
-    return () if request == FROM_NEUTRAL else chance.choice(FINISHED[FROM_NEUTRAL])
+    return chance.choice(leads(request))
 
 
 def pause_before(table, state, code):
@@ -89,14 +116,23 @@ def edges(table, state):
                 yield [(TICK, amount), (ASK_CLUTCH, 0)]
 
 
+def walks_through_errors(chance, any_table):
+    """Tables and walks through each error and its reset to each request: with a shift of those that the box allows."""
+    for request, shift in [(request, shift) for request, shifts in ROUNDS.items() for shift in shifts]:
+        for again in REQUESTS if shift[-1] == RESET else ():
+            allowed, table = again in requests_at(box_after(shift)), any_table(chance)
+            codes = lead(chance, request) + shift + (chance.choice(SHIFTS[again]) if allowed else ())
+            yield table, timed(table, codes, mixed(chance)) + ([] if allowed else [(again, 0)])
+
+
 def any_walk(chance, table):
     """A walk through a few shifts, sometimes broken off, sometimes with a tick at its end that may be refused."""
-    codes, request = (), FROM_NEUTRAL
-    while request and len(codes) < LONG_WALK:
-        shift = chance.choice((FINISHED if chance.random() < 0.7 else SHIFTS)[request])
-        codes += shift
-        next_requests = (FROM_NEUTRAL,) if request == TO_NEUTRAL else (GEAR_TO_GEAR, TO_NEUTRAL)
-        request = chance.choice(next_requests) if shift[-1] == FINISH and chance.random() < 0.6 else None
+    codes, box, goes_on = (), START.box, True
+    while goes_on and len(codes) < LONG_WALK:
+        shift = chance.choice((FINISHED if chance.random() < 0.7 else SHIFTS)[chance.choice(requests_at(box))])
+        goes_on = chance.random() < 0.6
+        codes += to_rest(shift) if goes_on else shift
+        box = box_after(shift)
     steps = timed(table, codes, mixed(chance))
     if chance.random() < 0.3:
         steps = steps[:chance.randint(0, len(steps))]

@@ -5,7 +5,7 @@ from itertools import product
 from buffers import NO_BUFFER, buffer_for
 from corpus import case_of
 from files import MOST_RECORDS, RECORD, file_of
-from records import EXTREME_AMOUNTS, LISTED, bad_amount, good_amount, unlisted_code
+from records import EXTREME_AMOUNTS, LISTED, bad_amount, good_amount, unlisted_code, unlisted_codes
 from rules import DEFAULT
 from tables import any_table, broken_table, edge_tables, good_table
 
@@ -48,7 +48,7 @@ def refusals_in_order(chance):
 
 def every_fault(chance):
     """Codes with amounts at the ends of what they may have, and faults at every place of a list."""
-    for code, amount in product((0, *LISTED, 13, 255), EXTREME_AMOUNTS):
+    for code, amount in product((*LISTED, *unlisted_codes(chance)), EXTREME_AMOUNTS):
         yield written(chance, NONE, any_table(chance), bytes((code,)), [amount])
     codes, amounts = lists(chance, 8)
     for place in range(len(codes)):

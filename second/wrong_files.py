@@ -62,6 +62,7 @@ READER = [
 JUDGED = "admitted_step(table, state, *record(four))"
 PLACES = "range(0, len(records), RECORD.size)"
 VERDICT, ADVANCED = "return number, rule, accepted, state", "return step(table, state, *record(four))"
+REFUSED = "        if number:\n            return\n"
 
 JUDGE = [
     ("the refused record counts as accepted", "accepted += number == 0", "accepted += 1"),
@@ -70,10 +71,17 @@ JUDGE = [
     ("the start state with every refusal", VERDICT, "return number, rule, accepted, START if number else state"),
     ("the first record is left out", PLACES, "range(RECORD.size, len(records), RECORD.size)"),
     ("the last record is left out", PLACES, "range(0, len(records) - RECORD.size, RECORD.size)"),
-    ("judging goes on after a refusal", "        if number:\n            return\n", ""),
+    ("judging goes on after a refusal", REFUSED, ""),
     ("judging by the default table", JUDGED, "admitted_step(DEFAULT, state, *record(four))"),
     ("judging from the box in gear", "    state = START\n", "    state = START._replace(box=1)\n"),
     ("only the first record is judged", JUDGED, f"{JUDGED} if state == START else (0, state)"),
+    ("judging ends at a reset", REFUSED, REFUSED.replace(":", " or four[0] == 13:")),
+    ("a reset is no record of a file", JUDGED, f"(5, state) if four[0] == 13 else {JUDGED}"),
+    ("a reset in a file begins anew", JUDGED, f"(0, START) if four[0] == 13 and state.phase == 23 else {JUDGED}"),
+    ("a reset is not counted as accepted", "accepted += number == 0",
+     "accepted += number == 0 and (state.phase, state.phase_time) != (0, state.clock)"),
+    ("the running judge knows no reset", ADVANCED,
+     ADVANCED.replace("return", "return (5, 0, state) if four[0] == 13 else")),
     ("the running judge leaves the middle byte out", ADVANCED, "return step(table, state, *record(four)[:2])"),
     ("the running judge admits any table", ADVANCED, f"number, state = {JUDGED}\n    return number, 0, state"),
 ]
@@ -155,6 +163,12 @@ WRITER = [
     ("the index is always 0", ANSWER_5_6, "number, 0, 0, 0, buffer"),
     ("the last record with 5 or 6", "in enumerate(zip(codes, amounts)):",
      "in reversed(list(enumerate(zip(codes, amounts)))):"),
+    ("the writer knows no reset", "number = unreadable(code, amount)",
+     "number = 5 if code == 13 else unreadable(code, amount)"),
+    ("the writer writes resets with any amount", "number = unreadable(code, amount)",
+     "number = 0 if code == 13 and amount < 2**16 else unreadable(code, amount)"),
+    ("the writer writes code 14", "number = unreadable(code, amount)",
+     "number = 0 if (code, amount) == (14, 0) else unreadable(code, amount)"),
     ("amounts are cut to 16 bits", TABLE_RULE, f"amounts = [amount % 2**16 for amount in amounts]\n    {TABLE_RULE}"),
     ("a middle byte of 1 is written", "RECORD.pack(code, 0, amount)", "RECORD.pack(code, 1, amount)"),
     ("the wish for none writes the default table", f"{NO_ENTRIES} ENTRIES.pack(*table)",

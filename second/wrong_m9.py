@@ -2,13 +2,14 @@
 
 import m9_printed
 from m9 import EVENTS, FINAL_FLAGS, Machine
-from settlements import ADDED, SETTLEMENTS
+from settlements import ADDED, OWN_EVENT, REQUESTED, SETTLED_ACTIONS, SETTLEMENTS
 
 PRINTED, SETTLED, M9 = "m9_printed.py", "settlements.py", "m9.py"
 DEADLINES = Machine(SETTLEMENTS).deadlines
 
-# The texts of the events, each as it stands in the file.
-TEXTS = {text.split("\n", 1)[0]: f"\n{text}\n" for text in m9_printed.EVENTS.strip().split("\n\n")}
+# The texts of the events, each as it stands in its file.
+TEXTS = {text.split("\n", 1)[0]: f"\n{text}\n"
+         for text in [*m9_printed.EVENTS.strip().split("\n\n"), OWN_EVENT.strip()]}
 
 
 def clause(event, label):
@@ -19,10 +20,10 @@ def clause(event, label):
     return "".join(lines[begin:end])
 
 
-def printed(what, event, old, new):
+def rewritten(what, event, old, new):
     """A wrong version with a text of an event changed; in the event it stands once."""
     assert TEXTS[event].count(old) == 1
-    return what, PRINTED, TEXTS[event], TEXTS[event].replace(old, new)
+    return what, SETTLED if event == "RESET" else PRINTED, TEXTS[event], TEXTS[event].replace(old, new)
 
 
 # What is settled, back as it is printed.
@@ -42,6 +43,8 @@ AS_PRINTED = [
      'ToNeu_OpenClutch = TRUE ∧ Gear_Set = FALSE "\n        "⇒ time + tick ≤ ToNeu_OpenClutchT'),
     *((f"{event} asks nothing of its device", SETTLED, f'    Settlement("{event}", ADDED, "{stands}", ', "    # (")
       for event, label, stands, _ in SETTLEMENTS if label == ADDED),
+    *((f"{event} leaves the box as it is", SETTLED, f'    Settlement("{event}", REQUESTED, "{stands}", ', "    # (")
+      for event, label, stands, _ in SETTLED_ACTIONS if label == REQUESTED),
 ]
 
 
@@ -53,9 +56,9 @@ def dropped_guards():
     """The first guard of each event dropped, and of each that ends a shift the one on its device."""
     for event in EVENTS.values():
         if event.name not in ("FINAL", "Tick_Tock", "NoNeu_OpenClutch_Releasing"):
-            yield printed(f"{event.name} without grd1", event.name, clause(event.name, "grd1"), "")
+            yield rewritten(f"{event.name} without grd1", event.name, clause(event.name, "grd1"), "")
     for name in FINAL_FLAGS:
-        yield printed(f"{name} asks nothing of its device", name, clause(name, "grd4"), "")
+        yield rewritten(f"{name} asks nothing of its device", name, clause(name, "grd4"), "")
 
 
 def dropped_limits():
@@ -63,7 +66,7 @@ def dropped_limits():
     for event in EVENTS.values():
         for guard in event.guards:
             if guard.stands.startswith(("isNeu", "time ≥")) and not guard.why:
-                yield printed(f"{event.name} without {guard.label}, {guard.stands}", event.name,
+                yield rewritten(f"{event.name} without {guard.label}, {guard.stands}", event.name,
                               clause(event.name, guard.label), "")
 
 
@@ -72,27 +75,51 @@ def own_flag():
     for name in ("Engine_SyncSpeed", "Clutch_Open", "Gear_Release", "FromNeu_OpenClutch", "ToNeu_ZeroTorque",
                  "NoNeu_ZeroTorque", "NoNeu_Release_Clutch", "Gear_Request_Set", "Clutch_Request_Close"):
         label, = (guard.label for guard in EVENTS[name].guards if guard.printed == f"{name} = FALSE")
-        yield printed(f"{name} twice", name, clause(name, label), "")
+        yield rewritten(f"{name} twice", name, clause(name, label), "")
 
 
 GUARDS = [*dropped_guards(), *dropped_limits(), *own_flag()]
 
-# Actions.
+# Actions. Left out are those of request 2 that fall away: where they stand, the box is on their side already. Left out
+# is too that RESET lowers a flag that is never up in error.
+
+NEVER_UP_IN_ERROR = {*FINAL_FLAGS, "Clutch_Close"}
 
 
 def dropped_actions():
-    """Each action on a time or the box dropped, and each of FINAL."""
+    """Each printed action on a time or the box dropped, each of FINAL, and each of RESET."""
     for event in EVENTS.values():
-        for label, variable, _ in event.actions if event.name != "Tick_Tock" else ():
-            if event.name == "FINAL" or variable != event.name:
-                yield printed(f"{event.name} leaves {variable} as it is", event.name, clause(event.name, label), "")
+        for action in event.actions if event.name != "Tick_Tock" else ():
+            shown = action.variable != event.name and action.printed and action.stands
+            if shown or event.name == "FINAL" or event.name == "RESET" and action.variable not in NEVER_UP_IN_ERROR:
+                yield rewritten(f"{event.name} leaves {action.variable} as it is", event.name,
+                                clause(event.name, action.label), "")
+
+
+def crossed_actions():
+    """Each action on the box that is added, with the other side."""
+    for event, label, stands, _ in SETTLED_ACTIONS:
+        if label == REQUESTED:
+            text = f'"{event}", REQUESTED, "{stands}"'
+            other = text.replace("TRUE", "false").replace("FALSE", "TRUE").replace("false", "FALSE")
+            yield f"{event} moves the box to the other side", SETTLED, text, other
 
 
 ACTIONS = [
     *dropped_actions(),
-    printed("Tick_Tock leaves the time as it is", "Tick_Tock", "time := time + tick", "time := time"),
-    printed("to neutral ends in gear", "ToNeu_CloseClutch", "isNeu := TRUE", "isNeu := FALSE"),
-    printed("Clutch_Open stamps the close's time", "Clutch_Open", "Clutch_OpenT := time", "Clutch_CloseT := time"),
+    rewritten("Tick_Tock leaves the time as it is", "Tick_Tock", "time := time + tick", "time := time"),
+    *crossed_actions(),
+    rewritten("from neutral without the clutch ends neutral", "FromNeu_SetGear_NoClutch",
+              "isNeu := FALSE", "isNeu := TRUE"),
+    rewritten("to neutral without the clutch ends in gear", "ToNeu_Release_NoClutch",
+              "isNeu := TRUE", "isNeu := FALSE"),
+    rewritten("Gear_Set moves the box", "Gear_Set", "Gear_SetT := time\n",
+              "Gear_SetT := time\nact3 : isNeu := FALSE\n"),
+    rewritten("Gear_Release moves the box", "Gear_Release", "Gear_ReleaseT := time\n",
+              "Gear_ReleaseT := time\nact3 : isNeu := TRUE\n"),
+    rewritten("an error of from neutral makes the box neutral", "Error_FromNeu_CloseClutch",
+              "Error_FromNeu_CloseClutch := TRUE\n", "Error_FromNeu_CloseClutch := TRUE\nact2 : isNeu := TRUE\n"),
+    rewritten("Clutch_Open stamps the close's time", "Clutch_Open", "Clutch_OpenT := time", "Clutch_CloseT := time"),
     ("FINAL changes the box", PRINTED, "act42 : Gear_Request_Set := FALSE\n",
      "act42 : Gear_Request_Set := FALSE\nact43 : isNeu := TRUE\n"),
     ("the box begins in gear", PRINTED, "  act2 : isNeu := TRUE", "  act2 : isNeu := FALSE"),
@@ -101,6 +128,46 @@ ACTIONS = [
      "Error_Clutch_Open Clutch_Open Clutch_Close"),
     ("two times crossed in their order", PRINTED, "Engine_SyncSpeedT Engine_ZeroTorqueT Clutch_OpenT",
      "Engine_ZeroTorqueT Engine_SyncSpeedT Clutch_OpenT"),
+]
+
+# Reset.
+
+ERRORS = [literal.split(" = ")[0] for literal in EVENTS["RESET"].guards[0].stands.split(" ∨ ")]
+LAST_ACTION = "Gear_Request_Set := FALSE\n"
+
+
+def left_errors():
+    """RESET's guard without each of the errors."""
+    for flag, other in zip(ERRORS, ERRORS[1:] + ERRORS[:1]):
+        yield rewritten(f"no RESET after {flag}", "RESET", f"{flag} = TRUE", f"{other} = TRUE")
+
+
+def kept_flags(what, begins):
+    """RESET without its actions on flags that begin so."""
+    text = TEXTS["RESET"]
+    for action in EVENTS["RESET"].actions:
+        if action.variable.startswith(begins):
+            text = text.replace(clause("RESET", action.label), "")
+    return f"RESET leaves {what} as they are", SETTLED, TEXTS["RESET"], text
+
+
+RESETS = [
+    *left_errors(),
+    kept_flags("all errors", "Error_"),
+    kept_flags("the controller's errors", ("Error_FromNeu", "Error_ToNeu", "Error_NoNeu")),
+    kept_flags("the devices' errors", ("Error_Clutch", "Error_Gear")),
+    kept_flags("the requests", "Request"),
+    kept_flags("the devices' flags", ("Engine", "Clutch", "Gear")),
+    kept_flags("all flags of gear to gear", ("NoNeu", "Error_NoNeu")),
+    rewritten("RESET for a device's error", "RESET", clause("RESET", "grd1"),
+              "grd1 : " + " ∨ ".join(f"Error_{name} = TRUE" for name in
+                                     ("Clutch_Open", "Clutch_Close", "Gear_Release", "Gear_Set")) + "\n"),
+    rewritten("RESET for a request too", "RESET", "grd1 : ", "grd1 : RequestToNeu = TRUE ∨ "),
+    rewritten("RESET in done too", "RESET", "grd1 : ", "grd1 : FromNeu_CloseClutch = TRUE ∨ "),
+    rewritten("RESET makes the box neutral", "RESET", LAST_ACTION, f"{LAST_ACTION}act64 : isNeu := TRUE\n"),
+    rewritten("RESET makes the box in gear", "RESET", LAST_ACTION, f"{LAST_ACTION}act64 : isNeu := FALSE\n"),
+    rewritten("RESET sets a time to 0", "RESET", LAST_ACTION, f"{LAST_ACTION}act64 : Gear_Request_SetT := 0\n"),
+    rewritten("RESET stamps a time", "RESET", LAST_ACTION, f"{LAST_ACTION}act64 : RequestFromNeuT := time\n"),
 ]
 
 # The guards of Tick_Tock.
@@ -121,10 +188,10 @@ def off_deadlines():
         if label in settled:
             continue
         if place % 2:
-            yield printed(f"{label} from the time itself", "Tick_Tock", lines, lines.replace(f" {time}", " time"))
+            yield rewritten(f"{label} from the time itself", "Tick_Tock", lines, lines.replace(f" {time}", " time"))
         else:
             other = OTHER_LIMITS[limit]
-            yield printed(f"{label} with {other}", "Tick_Tock", lines, lines.replace(f" {limit}", f" {other}"))
+            yield rewritten(f"{label} with {other}", "Tick_Tock", lines, lines.replace(f" {limit}", f" {other}"))
 
 
 TICKS = [
@@ -188,4 +255,4 @@ READING = [
     ("an order is not left by taking", M9, LEFT, "left = order.asked and variables[order.asked]"),
 ]
 
-WRONG_M9 = [*AS_PRINTED, *GUARDS, *ACTIONS, *TICKS, *STEPS, *READING]
+WRONG_M9 = [*AS_PRINTED, *GUARDS, *ACTIONS, *RESETS, *TICKS, *STEPS, *READING]

@@ -149,7 +149,8 @@ PHASES = [
 # Entering a phase.
 
 PHASE_TIME, STAGE_TIME = "phase_time=state.clock,", "stage_time=state.clock,"
-TO_NEUTRAL = "LAST_PHASES_TO_NEUTRAL = 19, 21"
+BOX, REQUEST_TIME = "box=state.box,", "request_time=0 if phase == AT_REST else"
+BY_DONE = "NEUTRAL if state.phase in (19, 21) else IN_GEAR"
 FAILED, OTHERWISE = "failed_phase=state.phase if phase == ERROR", "if phase == ERROR else 0,"
 
 ENTERING = [
@@ -163,20 +164,24 @@ ENTERING = [
     ("entering 1 to 21 makes the stage working", "stage=SENT if phase", "stage=WORKING if phase"),
     ("entering 0, 22 or 23 keeps the stage", "in PHASES else NONE,", "in PHASES else state.stage,"),
     ("entering 0, 22 or 23 makes the stage sent", "in PHASES else NONE,", "in PHASES else SENT,"),
-    ("entering 22 keeps the box", "if phase == DONE:", "if False:"),
-    ("entering 22 from 19 and 21 keeps the box", "box = NEUTRAL if", "box = state.box if"),
-    ("entering 22 from 19 and 21 makes the box in gear", "box = NEUTRAL if", "box = IN_GEAR if"),
-    ("entering 22 from other phases makes the box neutral", "TO_NEUTRAL else IN_GEAR", "TO_NEUTRAL else NEUTRAL"),
-    ("entering 22 from other phases keeps the box", "TO_NEUTRAL else IN_GEAR", "TO_NEUTRAL else state.box"),
-    ("entering 22 from 19 makes the box in gear", TO_NEUTRAL, "LAST_PHASES_TO_NEUTRAL = 21,"),
-    ("entering 22 from 21 makes the box in gear", TO_NEUTRAL, "LAST_PHASES_TO_NEUTRAL = 19,"),
-    ("entering 22 from 16 makes the box neutral", TO_NEUTRAL, "LAST_PHASES_TO_NEUTRAL = 16, 19, 21"),
-    ("entering 23 from 19 and 21 makes the box neutral", "if phase == DONE:",
-     "if phase == DONE or phase == ERROR and state.phase in LAST_PHASES_TO_NEUTRAL:"),
-    ("entering 0 keeps the request time", "request_time = 0", "request_time = state.request_time"),
-    ("entering 0 sets the request time to the clock", "request_time = 0", "request_time = state.clock"),
-    ("entering 22 sets the request time to 0", "if phase == AT_REST:", "if phase in (AT_REST, DONE):"),
-    ("entering 23 sets the request time to 0", "if phase == AT_REST:", "if phase in (AT_REST, ERROR):"),
+    ("entering 22 moves the box too", BOX, f"box=({BY_DONE}) if phase == DONE else state.box,"),
+    ("entering 22 makes the box in gear", BOX, "box=IN_GEAR if phase == DONE else state.box,"),
+    ("entering 22 makes the box neutral", BOX, "box=NEUTRAL if phase == DONE else state.box,"),
+    *((f"entering 22 from {phase} makes the box {words(box)}", BOX,
+       f"box={box} if phase == DONE and state.phase == {phase} else state.box,")
+      for phase, box in ((5, "IN_GEAR"), (15, "IN_GEAR"), (16, "IN_GEAR"), (21, "NEUTRAL"))),
+    ("entering 23 makes the box neutral", BOX, "box=NEUTRAL if phase == ERROR else state.box,"),
+    ("entering 23 makes the box in gear", BOX, "box=IN_GEAR if phase == ERROR else state.box,"),
+    ("entering 23 from 19 and 21 makes the box neutral", BOX,
+     "box=NEUTRAL if phase == ERROR and state.phase in (19, 21) else state.box,"),
+    ("entering 0 makes the box neutral", BOX, "box=NEUTRAL if phase == AT_REST else state.box,"),
+    ("entering 0 makes the box in gear", BOX, "box=IN_GEAR if phase == AT_REST else state.box,"),
+    ("entering 10 makes the box in gear", BOX, "box=IN_GEAR if phase == 10 else state.box,"),
+    ("entering 0 keeps the request time", REQUEST_TIME, "request_time=state.request_time if phase == AT_REST else"),
+    ("entering 0 sets the request time to the clock", REQUEST_TIME,
+     "request_time=state.clock if phase == AT_REST else"),
+    ("entering 22 sets the request time to 0", REQUEST_TIME, "request_time=0 if phase in (AT_REST, DONE) else"),
+    ("entering 23 sets the request time to 0", REQUEST_TIME, "request_time=0 if phase in (AT_REST, ERROR) else"),
     ("entering 23 sets the failed phase to 0", FAILED, "failed_phase=0 if phase == ERROR"),
     ("entering 23 sets the failed phase to 23", FAILED, "failed_phase=phase if phase == ERROR"),
     ("entering 23 keeps the failed phase", FAILED, "failed_phase=state.failed_phase if phase == ERROR"),
@@ -189,24 +194,30 @@ ENTERING = [
      "if phase == ERROR else state.failed_phase if phase in PHASES else 0,"),
 ]
 
-# The twelve steps: codes and amounts, when a step is allowed, its limits and its effect.
+# The thirteen steps: codes and amounts, when a step is allowed, its limits and its effect.
 
 CODES = [
     ("code 0 is a step", "    TICK: (range", "    0: ({AT_REST}, STAGES),\n    TICK: (range"),
-    ("code 13 is a step", "    TICK: (range", "    13: ({AT_REST}, STAGES),\n    TICK: (range"),
-    ("code 12 is no step", "if code not in ALLOWED:", "if code not in range(1, TICK):"),
+    ("code 14 is a step", "    TICK: (range", "    14: ({AT_REST}, STAGES),\n    TICK: (range"),
+    ("code 12 is no step", "if code not in ALLOWED:", "if code not in ALLOWED or code == TICK:"),
+    ("code 13 is no step", "if code not in ALLOWED:", "if code not in ALLOWED or code == RESET:"),
+    ("code 14 has a wrong amount", "if code not in ALLOWED:", "if code not in (*ALLOWED, 14):"),
     ("a tick of 0 is allowed", "(1, LONGEST_TICK)", "(0, LONGEST_TICK)"),
     ("a tick of 1 is refused", "(1, LONGEST_TICK)", "(2, LONGEST_TICK)"),
     ("a tick of 65,535 is refused", "(1, LONGEST_TICK)", "(1, LONGEST_TICK - 1)"),
     ("a tick of 65,536 is allowed", "(1, LONGEST_TICK)", "(1, LONGEST_TICK + 1)"),
-    ("an amount of 1 is allowed for codes 1 to 11", "else (0, 0)", "else (0, 1)"),
+    ("an amount of 1 is allowed for codes 1 to 11", "else (0, 0)", "else (0, 0 if code == RESET else 1)"),
+    ("an amount of 1 is allowed for reset", "else (0, 0)", "else (0, 1 if code == RESET else 0)"),
+    ("any amount is allowed for reset", "else (0, 0)", "else (0, LAST_CLOCK if code == RESET else 0)"),
+    ("a reset has the amount of a tick", "(1, LONGEST_TICK) if code == TICK", "(1, LONGEST_TICK) if code >= TICK"),
+    ("the middle byte of a reset may be anything", "middle == 0 and least", "(middle == 0 or code == RESET) and least"),
     ("the middle byte may be anything", "middle == 0 and least", "least"),
     ("the middle byte may be 1", "middle == 0 and least", "middle <= 1 and least"),
     ("the middle byte may be 255", "middle == 0 and least", "middle in (0, 255) and least"),
 ]
 
 FROM_NEUTRAL, GEAR_TO_GEAR = "FROM_NEUTRAL: ({AT_REST}, STAGES)", "GEAR_TO_GEAR: ({AT_REST}, STAGES)"
-FINISH = "FINISH: ({DONE}, STAGES)"
+FINISH, RESET = "FINISH: ({DONE}, STAGES)", "RESET: ({ERROR}, STAGES)"
 WRONG_BOX, UNLISTED_BOX = "if code in REQUESTS and state.box", "state.box not in BOXES"
 
 ALLOWED_WHEN = [
@@ -238,6 +249,22 @@ ALLOWED_WHEN = [
     ("finish in stage 6", FINISH, "FINISH: ({DONE}, range(7))"),
     ("finish in error", FINISH, "FINISH: ({DONE, ERROR}, STAGES)"),
     ("finish at rest", FINISH, "FINISH: ({AT_REST, DONE}, STAGES)"),
+    ("reset in stage none alone", RESET, "RESET: ({ERROR}, {NONE})"),
+    ("reset in stages none and failed alone", RESET, "RESET: ({ERROR}, {NONE, FAILED})"),
+    ("reset in stage 6", RESET, "RESET: ({ERROR}, range(7))"),
+    ("reset in done", RESET, "RESET: ({DONE, ERROR}, STAGES)"),
+    ("reset in done alone", RESET, "RESET: ({DONE}, STAGES)"),
+    ("reset at rest", RESET, "RESET: ({AT_REST, ERROR}, STAGES)"),
+    ("reset in phases 1 to 21", RESET, "RESET: ({*PHASES, ERROR}, STAGES)"),
+    ("reset in stage failed of phases 1 to 21", "return NOT_ALLOWED",
+     "return 0 if code == RESET and state.phase in PHASES and state.stage == FAILED else NOT_ALLOWED"),
+    ("reset everywhere", RESET, "RESET: (range(ERROR + 1), STAGES)"),
+    ("reset in phase 24", RESET, "RESET: ({ERROR, ERROR + 1}, STAGES)"),
+    ("reset nowhere", RESET, "RESET: ((), STAGES)"),
+    ("no reset with the box neutral", UNLISTED_BOX, f"{UNLISTED_BOX} or code == RESET and state.box == NEUTRAL"),
+    ("no reset with the box in gear", UNLISTED_BOX, f"{UNLISTED_BOX} or code == RESET and state.box == IN_GEAR"),
+    ("a reset with a wrong box gives 8", WRONG_BOX, "if code == RESET and state.box:\n        return WRONG_BOX\n    "
+     f"{WRONG_BOX}"),
     ("a tick in phase 24", "range(ERROR + 1)", "range(ERROR + 2)"),
     ("no tick in error", "range(ERROR + 1)", "range(ERROR)"),
     ("a tick in stage 6", "(range(ERROR + 1), STAGES)", "(range(ERROR + 1), range(7))"),
@@ -301,6 +328,9 @@ LIMITS = [
 
 STAGED, TICKED = "stage_time=state.clock)", "clock=state.clock + amount)"
 NEXT, CLUTCH = "PHASES[state.phase].when_taken", "PHASES[state.phase].when_asked"
+TAKEN_BOX, BY_ORDER = "BOX_WHEN_TAKEN.get(PHASES[state.phase].order, state.box)", "{SET: IN_GEAR, RELEASE: NEUTRAL}"
+TAKING, ERRING = "enter(state._replace(box=box_when_taken(state)), ", "enter(state, ERROR)"
+ENDING, RESTING = "    if code in (FINISH, RESET):\n", "enter(state, AT_REST)"
 AFTER = "return number, state if number else after(state, code, amount)"
 
 EFFECTS = [
@@ -319,14 +349,77 @@ EFFECTS = [
     ("engine waits makes the stage failed", "ENGINE_WAITS: WAITING", "ENGINE_WAITS: FAILED"),
     ("take enters the clutch phase if there is one", NEXT, f"{CLUTCH} or {NEXT}"),
     ("ask clutch enters the next phase", CLUTCH, NEXT),
-    ("raise error enters 22", "enter(state, ERROR)", "enter(state, DONE)"),
-    ("raise error enters 0", "enter(state, ERROR)", "enter(state, AT_REST)"),
-    ("finish enters 23", "enter(state, AT_REST)", "enter(state, ERROR)"),
+    ("raise error enters 22", ERRING, "enter(state, DONE)"),
+    ("raise error enters 0", ERRING, "enter(state, AT_REST)"),
+    ("finish enters 23", RESTING, "enter(state, AT_REST if code == RESET else ERROR)"),
     ("a tick moves the clock one too far", TICKED, "clock=state.clock + amount + 1)"),
     ("a tick sets the stage time", TICKED, "clock=state.clock + amount, stage_time=state.clock)"),
     ("a tick sets the failed phase to 0", TICKED, "clock=state.clock + amount, failed_phase=0)"),
     ("a step hands its state back untouched", AFTER, "return number, state"),
     ("a refused tick moves the clock", AFTER, AFTER.replace("if number", "if number and code != TICK")),
+]
+
+# The box: taking a set order makes it in gear, taking a release order neutral, and nothing else moves it.
+
+BOXES = [
+    ("entering 22 moves the box and taking doesn't", TAKEN_BOX,
+     f"state.box if {NEXT} != DONE else {BY_DONE}"),
+    ("taking never moves the box", TAKING, "enter(state, "),
+    ("taking set and release crossed", BY_ORDER, "{SET: NEUTRAL, RELEASE: IN_GEAR}"),
+    ("taking set keeps the box", BY_ORDER, "{RELEASE: NEUTRAL}"),
+    ("taking release keeps the box", BY_ORDER, "{SET: IN_GEAR}"),
+    ("taking set moves the box to the other side", TAKEN_BOX, f"1 - state.box if {TAKEN_BOX} == IN_GEAR else NEUTRAL"),
+    *((f"taking {order} in phase {phase} keeps the box", TAKEN_BOX,
+       f"state.box if state.phase == {phase} else {TAKEN_BOX}")
+      for order, phases in (("set", (3, 4, 12, 13, 14)), ("release", (8, 9, 19, 20))) for phase in phases),
+    ("taking release in gear to gear keeps the box", TAKEN_BOX,
+     f"state.box if state.phase in (8, 9) else {TAKEN_BOX}"),
+    ("taking set in gear to gear keeps the box", TAKEN_BOX,
+     f"state.box if state.phase in (12, 13, 14) else {TAKEN_BOX}"),
+    *((f"taking {words(order)} makes the box {words(box)}", BY_ORDER, f"{{{order}: {box}, {BY_ORDER[1:]}")
+      for order in ("SYNC", "ZERO_TORQUE", "OPEN", "CLOSE") for box in ("NEUTRAL", "IN_GEAR")),
+    ("deliver moves the box too", STAGED,
+     "stage_time=state.clock, box=box_when_taken(state) if code == DELIVER else state.box)"),
+    ("device good moves the box too", STAGED,
+     "stage_time=state.clock, box=box_when_taken(state) if code == DEVICE_GOOD else state.box)"),
+    ("device failed moves the box too", STAGED,
+     "stage_time=state.clock, box=box_when_taken(state) if code == DEVICE_FAILED else state.box)"),
+    ("device good moves the box and taking doesn't", f"{STAGED}\n    if code == TAKE:\n        return {TAKING}",
+     "stage_time=state.clock, box=box_when_taken(state) if code == DEVICE_GOOD else state.box)\n"
+     "    if code == TAKE:\n        return enter(state, "),
+    ("ask clutch makes the box neutral", f"enter(state, {CLUTCH})", f"enter(state._replace(box=NEUTRAL), {CLUTCH})"),
+    ("raise error moves the box as taking does", ERRING, TAKING + "ERROR)"),
+    ("finish makes the box neutral", RESTING, "enter(state._replace(box=state.box * (code == RESET)), AT_REST)"),
+    ("finish makes the box in gear", RESTING,
+     "enter(state._replace(box=state.box if code == RESET else IN_GEAR), AT_REST)"),
+    ("reset makes the box neutral", RESTING, "enter(state._replace(box=state.box * (code == FINISH)), AT_REST)"),
+    ("reset makes the box in gear", RESTING,
+     "enter(state._replace(box=state.box if code == FINISH else IN_GEAR), AT_REST)"),
+    ("reset makes the box what taking would have", ENDING,
+     "    if code == RESET and state.failed_phase in PHASES:\n"
+     "        state = state._replace(box=box_when_taken(state._replace(phase=state.failed_phase)))\n" + ENDING),
+    ("a tick makes the box neutral", TICKED, "clock=state.clock + amount, box=NEUTRAL)"),
+]
+
+# Reset.
+
+
+def off_resets():
+    """Reset with each field that entering 0 sets left as it was."""
+    for field in ("request_time", "failed_phase", "phase_time", "stage_time", "stage"):
+        wrong = f"{RESTING}._replace(**({{'{field}': state.{field}}} if code == RESET else {{}}))"
+        yield f"reset keeps the {words(field)}", RESTING, wrong
+
+
+RESETS = [
+    *off_resets(),
+    ("reset sets the request time to the clock", RESTING,
+     f"{RESTING}._replace(request_time=state.clock if code == RESET else 0)"),
+    ("reset enters 22", RESTING, "enter(state, AT_REST if code == FINISH else DONE)"),
+    ("reset enters the failed phase", RESTING, "enter(state, AT_REST if code == FINISH else state.failed_phase)"),
+    ("reset goes back to the start state", RESTING, f"START if code == RESET else {RESTING}"),
+    ("reset sets the clock to 0", RESTING, "enter(state._replace(clock=state.clock * (code == FINISH)), AT_REST)"),
+    ("reset does nothing", ENDING, "    if code == FINISH:\n"),
 ]
 
 # The order of refusals of one step: 4, 5, 6, 7, 8, 9, 10 and 13, 12, 11. No step can get two of 8, 9 and 10.
@@ -369,5 +462,5 @@ STEP_ORDER = [
 ]
 
 WRONG_RULES = [
-    *ADMISSION, *PHASES, *ENTERING, *CODES, *ALLOWED_WHEN, *LIMITS, *EFFECTS, *STEP_ORDER,
+    *ADMISSION, *PHASES, *ENTERING, *CODES, *ALLOWED_WHEN, *LIMITS, *EFFECTS, *BOXES, *RESETS, *STEP_ORDER,
 ]

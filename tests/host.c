@@ -79,6 +79,8 @@ static const munasirel_limits normal = {5,   100, 200, 150, 150, 300, 200, 150, 
                                         155, 255, 151, 251, 200, 350, 250, 200, 1500};
 static const char *const K1 = "1 t5 4 t100 5 t5 8 4 t300 5 8 11";
 static const char *const K11 = "1 t5 4 t100 5 t5 8 4 t300 5 8 11 3 4 5 8 4 6 10 11";
+/* The set order is taken in phase 4, and the clutch will not close in phase 5. */
+#define WOULD_NOT_CLOSE "1 4 7 t151 9 4 5 8 4 5 8 4 6 10"
 
 static uint8_t codes[MUNASIREL_MOST_RECORDS + 1];
 static uint32_t amounts[MUNASIREL_MOST_RECORDS + 1];
@@ -218,20 +220,29 @@ static void judging(void)
     judges_byte("one record too few", 8, 13, 3);
     judges_byte("one record too many", 8, 11, 3);
     judges_byte("code 0", 12, 0, 5);
-    judges_byte("code 13", 12, 13, 5);
+    judges_byte("code 14", 12, 14, 5);
     judges_byte("code 255", 12, 255, 5);
     judges_byte("a middle byte", 13, 1, 6);
     judges_byte("an amount for a request, low", 14, 1, 6);
     judges_byte("an amount for a request, high", 15, 1, 6);
     judges_byte("a tick of 0", 18, 0, 6);
     judges_byte("an amount for the last step", made_length - 1, 128, 6);
-    made[13] = 1, judges_byte("code 13 and a middle byte", 12, 13, 5);
+    made[13] = 1, judges_byte("code 14 and a middle byte", 12, 14, 5);
     make(K1), made_length--, judges("a byte too few", 3);
     make(K1), made[made_length++] = 0, judges("a byte too many", 3);
     make_with(with(0, 0), K1), made_length--, judges("3 before 4", 3);
-    make_with(with(0, 0), "13"), judges("4 before 5", 4);
-    make("t1 13 1 1"), judges("the first wrong record decides", 5);
-    make("1 1 13"), judges("and no later one", 7);
+    make_with(with(0, 0), "14"), judges("4 before 5", 4);
+    make("t1 14 1 1"), judges("the first wrong record decides", 5);
+    make("1 1 14"), judges("and no later one", 7);
+    make(WOULD_NOT_CLOSE), judges("a clutch that would not close", 0);
+    make(WOULD_NOT_CLOSE " 13 3"), judges("a reset, then to neutral", 0);
+    make(WOULD_NOT_CLOSE " 13 1"), judges("a reset, then from neutral", 8);
+    make(WOULD_NOT_CLOSE " 13 13"), judges("a second reset", 7);
+    make(WOULD_NOT_CLOSE " 11"), judges("finish after an error", 7);
+    make("13"), judges("a reset at rest", 7);
+    make("1 4 5 8 4 5 8 13"), judges("a reset in 22", 7);
+    make(WOULD_NOT_CLOSE " 13"), judges_byte("a reset with an amount", made_length - 2, 1, 6);
+    judges_byte("a reset with a middle byte", made_length - 3, 1, 6);
 
     ticks(MUNASIREL_MOST_RECORDS, 65535), make_list(&normal), judges("the longest file", 0);
     made[made_length++] = 0, judges("the longest file and a byte", 3);
@@ -337,7 +348,10 @@ static void lining(void)
     make(K1), made[0] = 13, lines("a bad header", "unread 0 2 0 0 0\n");
     make(K1), made_length--, lines("a wrong length", "unread 0 3 0 0 0\n");
     make_with(with(17, 1404), K1), lines("K12", "unread 0 4 0 0 0\n");
-    make("t7 13"), lines("code 13", "refused 1 5 7 0 0\n");
+    make("t7 14"), lines("code 14", "refused 1 5 7 0 0\n");
+    make(WOULD_NOT_CLOSE), lines("a clutch that would not close", "accepted 14 0 151 23 1\n");
+    make(WOULD_NOT_CLOSE " t9 13"), lines("and a reset", "accepted 16 0 160 0 1\n");
+    make("13"), lines("a reset at rest", "refused 0 7 0 0 0\n");
     make("t0"), lines("a tick of 0", "refused 0 6 0 0 0\n");
     ticks(MUNASIREL_MOST_RECORDS, 65535), make_list(NULL), lines("the longest file", "accepted 16372 0 1072939020 0 0\n");
 }
@@ -462,22 +476,24 @@ static void writing(void)
     writes("3, fewer codes", &normal, 0, steps - 1, steps, 0, unequal);
     writes("3, no amounts", &normal, 0, steps, 0, 0, unequal);
     writes("3 before 4 and 15", &bad, 1, 0, steps, -90, unequal);
-    list("13"), writes("3 before 5", &normal, 0, 1, 0, 0, unequal);
+    list("14"), writes("3 before 5", &normal, 0, 1, 0, 0, unequal);
     list(""), writes_all("no steps", &normal, 0, 0, good);
     list(""), writes_all("no steps, a table", &normal, 1, 0, good);
     list(""), writes_all("no steps, 11 bytes", &normal, 0, -1, full);
-    list("1 13 4"), writes_all("5", &normal, 1, 0, (struct written){5, 1, 0});
+    list("1 14 4"), writes_all("5", &normal, 1, 0, (struct written){5, 1, 0});
     list("0"), writes_all("5, code 0", &normal, 0, 0, (struct written){5, 0, 0});
     list("1 4 255"), writes_all("5 before 15", &normal, 0, -5, (struct written){5, 2, 0});
-    list("13"), writes_all("4 before 5", &bad, 1, 0, (struct written){4, 0, 14});
+    list("14"), writes_all("4 before 5", &bad, 1, 0, (struct written){4, 0, 14});
     list("t65535"), writes_all("the largest tick", &normal, 0, 0, good);
     list("1 t65536"), writes_all("6, a tick too large", &normal, 0, 0, (struct written){6, 1, 0});
     list("t4294967295"), writes_all("6, the largest amount", &normal, 0, 0, (struct written){6, 0, 0});
-    list("4 5 t0 13"), writes_all("6, a tick of 0, before a later 5", &normal, 1, 0, (struct written){6, 2, 0});
-    list("4 5 13 t0"), writes_all("5 before a later 6", &normal, 1, -1, (struct written){5, 2, 0});
+    list("4 5 t0 14"), writes_all("6, a tick of 0, before a later 5", &normal, 1, 0, (struct written){6, 2, 0});
+    list("4 5 14 t0"), writes_all("5 before a later 6", &normal, 1, -1, (struct written){5, 2, 0});
     list("1 2 3 11"), amounts[3] = 1, writes_all("6, an amount for a finish", &normal, 0, 0, (struct written){6, 3, 0});
-    list("13"), amounts[0] = 1, writes_all("5 before 6 in one record", &normal, 0, 0, (struct written){5, 0, 0});
-    list("2 1 1 10"), writes_all("steps that the judge refuses", &normal, 1, 0, good);
+    list("14"), amounts[0] = 1, writes_all("5 before 6 in one record", &normal, 0, 0, (struct written){5, 0, 0});
+    list("1 13"), amounts[1] = 1, writes_all("6, an amount for a reset", &normal, 0, 0, (struct written){6, 1, 0});
+    list(WOULD_NOT_CLOSE " t9 13 3"), writes_all("a reset", &normal, 1, 0, good);
+    list("2 1 1 10 13"), writes_all("steps that the judge refuses", &normal, 1, 0, good);
 
     list("1 t300");
     writes_all("two steps", &normal, 0, 0, good);
@@ -492,7 +508,7 @@ static void writing(void)
     writes_all("2", &normal, 0, 0, many);
     writes_all("2 before 4", &bad, 1, 0, many);
     writes("3 before 2", &normal, 0, steps, steps - 1, 0, unequal);
-    codes[0] = 13, writes_all("2 before 5", &normal, 0, -9, many);
+    codes[0] = 14, writes_all("2 before 5", &normal, 0, -9, many);
 }
 
 /* ---- munasirel_advance. A state is written clock, box, phase, phase time, stage, stage time, request time, failed phase. */
@@ -543,6 +559,22 @@ static void walks(const char *name, munasirel_state from, const char *text, cons
     check("advance", name, "bytes", guarded());
 }
 
+/* The steps one after the other, with the box after each. */
+static void shows(const char *name, const char *text, const char *boxes)
+{
+    munasirel_state start = S(0);
+    fresh();
+    munasirel_state *state = lend(&start, sizeof start);
+    int good = 1;
+    list(text);
+    for (size_t i = 0; i < steps; i++) {
+        good &= munasirel_advance(state, normal, codes[i], 0, (uint8_t)(amounts[i] % 256), (uint8_t)(amounts[i] / 256)) == 0;
+        good &= state->gear_box == boxes[i] - '0';
+    }
+    check("advance", name, "boxes", good && strlen(boxes) == steps);
+    check("advance", name, "bytes", guarded());
+}
+
 static void advancing_runs(void)
 {
     static const struct { unsigned code, amount; munasirel_state to; } k1[] = {
@@ -567,6 +599,7 @@ static void advancing_runs(void)
     }
     for (unsigned code = 1; code < 12; code++)
         refuses("after an error", at, code, 0, 7);
+    takes("after an error", at, 13, 0, S(66486, 1, 0, 66486, 0, 66486, 0, 0));
 
     munasirel_state in_gear = S(10, 1, 0, 10, 0, 10, 0, 0);
     walks("from neutral, by the clutch", S(0), "1 4 7 t151 9 4 5 8 4 5 8 4 5 8 11",
@@ -578,28 +611,46 @@ static void advancing_runs(void)
     walks("gear to gear, by the clutch later", in_gear, "2 4 5 8 4 5 8 4 7 t151 9 4 5 8 4 5 8 4 6 10",
           (const uint8_t[]){6, 6, 6, 8, 8, 8, 10, 10, 10, 10, 11, 11, 11, 13, 13, 13, 15, 15, 15, 23},
           S(161, 1, 23, 161, 0, 161, 10, 15));
+    shows("the box, gear to gear", "1 4 5 8 4 5 8 11 2 4 5 8 4 5 8 4 5 8 4 5 8 11", "0000001111111100000011");
+    shows("the box, gear to gear by the clutch", "1 4 5 8 4 5 8 11 2 4 7 t251 9 4 5 8 4 5 8 4 5 8 4 5 8 11",
+          "00000011111111111100011111");
+    shows("the box, to neutral by the clutch, into an error", "1 4 5 8 4 5 8 11 3 4 7 t251 9 4 5 8 4 5 8 4 6 10 13 1",
+          "000000111111111111000000");
+    shows("the box of a clutch that would not close", WOULD_NOT_CLOSE " 13 3", "0000000000111111");
     walks("to neutral", in_gear, "3 4 5 8 4 5 8", (const uint8_t[]){17, 17, 17, 19, 19, 19, 22}, S(10, 0, 22, 10, 0, 10, 10, 0));
     walks("to neutral, by the clutch", in_gear, "3 4 7 t251 9 4 5 8 4 5 8 4 5 8 11",
           (const uint8_t[]){17, 17, 17, 17, 18, 18, 18, 20, 20, 20, 21, 21, 21, 22, 0}, S(261, 0, 0, 261, 0, 261, 0, 0));
 }
 
+static int sets(uint8_t phase)
+{
+    return phase == 3 || phase == 4 || phase == 12 || phase == 13 || phase == 14;
+}
+
+static int releases(uint8_t phase)
+{
+    return phase == 8 || phase == 9 || phase == 19 || phase == 20;
+}
+
 static void advancing_steps(void)
 {
     const munasirel_state rest = S(0), odd = S(1, 2, 24, 3, 6, 4, 5, 255), late = S(4294967295, 0, 1, 0, 2, 0, 0, 0);
+    const munasirel_state broken = S(9, 1, 23, 3, 0, 4, 5, 7);
     const munasirel_limits bad = with(17, 1404);
     advances("4", bad, rest, 1, 0, 0, 4, rest);
-    advances("4 before 5 and 6", bad, rest, 13, 1, 0, 4, rest);
+    advances("4 before 5 and 6", bad, rest, 14, 1, 0, 4, rest);
     advances("4 before 7", with(3, 0), odd, 1, 0, 0, 4, odd);
     refuses("5, code 0", rest, 0, 0, 5);
-    refuses("5, code 13", rest, 13, 0, 5);
+    refuses("5, code 14", rest, 14, 0, 5);
     refuses("5, code 255, before 6 and 7", odd, 255, 9, 5);
-    advances("5 before 6 for a middle byte", normal, rest, 13, 1, 0, 5, rest);
+    advances("5 before 6 for a middle byte", normal, rest, 14, 1, 0, 5, rest);
     advances("6, a middle byte", normal, rest, 1, 1, 0, 6, rest);
     advances("6, a middle byte of a tick", normal, rest, 12, 128, 5, 6, rest);
-    for (unsigned code = 1; code < 12; code++) {
-        refuses("6, a low amount", rest, code, 1, 6);
-        refuses("6, a high amount", rest, code, 256, 6);
+    for (unsigned code = 1; code < 14; code += code == 11 ? 2 : 1) {
+        refuses("6, a low amount", code == 13 ? broken : rest, code, 1, 6);
+        refuses("6, a high amount", code == 13 ? broken : rest, code, 256, 6);
     }
+    advances("6, a middle byte of a reset", normal, broken, 13, 1, 0, 6, broken);
     refuses("6, a tick of 0, before 7", odd, 12, 0, 6);
     refuses("7, phase 24", S(0, 0, 24, 0, 0, 0, 0, 0), 12, 1, 7);
     refuses("7, phase 255", S(0, 0, 255, 0, 0, 0, 0, 0), 1, 0, 7);
@@ -635,9 +686,25 @@ static void advancing_steps(void)
     refuses("10, K13 at 151", S(151, 0, 1, 0, 3, 0, 0, 0), 8, 0, 10);
     takes("take zero torque at 250", S(250, 1, 6, 0, 3, 0, 0, 0), 8, 0, S(250, 1, 8, 250, 1, 250, 0, 0));
     refuses("10, take zero torque at 251", S(251, 1, 17, 0, 3, 0, 0, 0), 8, 0, 10);
-    takes("take after any time", S(9999, 0, 4, 0, 3, 0, 0, 0), 8, 0, S(9999, 0, 5, 9999, 1, 9999, 0, 0));
+    takes("take after any time", S(9999, 0, 4, 0, 3, 0, 0, 0), 8, 0, S(9999, 1, 5, 9999, 1, 9999, 0, 0));
     takes("take, a sum above 32 bits", S(4294967295, 0, 1, 4294967295, 3, 0, 0, 0), 8, 0,
           S(4294967295, 0, 3, 4294967295, 1, 4294967295, 0, 0));
+
+    /* A reset keeps the clock and the box, and asks for phase 23 alone. */
+    for (uint8_t box = 0; box < 2; box++)
+        for (uint8_t stage = 0; stage < 6; stage++)
+            takes("a reset", S(9, box, 23, 3, stage, 4, 5, 7), 13, 0, S(9, box, 0, 9, 0, 9, 0, 0));
+    for (uint8_t phase = 0; phase < 23; phase++)
+        refuses("7, a reset elsewhere", S(9, 1, phase, 3, 4, 4, 5, 7), 13, 0, 7);
+    refuses("7, a reset in no listed stage", S(9, 1, 23, 3, 6, 4, 5, 7), 13, 0, 7);
+    refuses("7, a reset in phase 24", S(9, 1, 24, 3, 0, 4, 5, 7), 13, 0, 7);
+
+    /* Taking an order moves the box by the order, wherever it stood; in all other phases it is kept, on entering 22 too. */
+    static const uint8_t next[] = {0, 3, 4, 22, 5, 22, 8, 9, 10, 14, 12, 13, 22, 15, 16, 22, 22, 19, 20, 22, 21, 22};
+    for (uint8_t phase = 1; phase < 22; phase++)
+        for (uint8_t box = 0; box < 2; box++)
+            takes("the box of a take", S(9, box, phase, 9, 3, 9, 5, 0), 8, 0,
+                  S(9, sets(phase) ? 1 : releases(phase) ? 0 : box, next[phase], 9, next[phase] < 22, 9, 5, 0));
 
     /* By the phases' orders: the phase limits 9, 10, 13, 14, 15 and 16, with stage waiting, and the device limits 1 to 6. */
     static const struct { uint8_t phase; unsigned longest, device; } limit[] = {
@@ -751,8 +818,11 @@ static void manual(void)
     both("gear to gear by the clutch", normal, "1 4 5 8 4 5 8 11 2 4 7 t251 9 4 t150 5 8 4 5 8 4 5 8 4 5 8 11 3");
     both("gear to gear, the clutch asked for late", normal, "1 4 5 8 4 5 8 11 2 4 5 8 4 5 8 4 7 t151 9 4 5 8 4 5 8 4 5 8 11");
     both("to neutral by the clutch", normal, "1 4 5 8 4 5 8 11 3 4 7 t251 9 4 5 8 4 5 8 4 6 10 t9 11");
-    both("what is refused", normal, "13 0 t0 2 1 1 8 9 10 11 t156 t6 4 t101 6 9 7 9 t151 9 t6 4 t151 6 10 10 11 t65535");
-    both("a table that is not admitted", with(0, 0), "1 t5 13");
+    v = both("a reset", normal, WOULD_NOT_CLOSE " t9 13");
+    check("m9", "a reset", "flags", flags_up(&v) == 0 && v.time == 160);
+    both("resets", normal, "13 " WOULD_NOT_CLOSE " 13 13 3 4 5 8 13 4 6 10 1 13 2 4 5 8 4 5 8 4 5 8 4 6 10 t3 13 1 13 4 7 t151");
+    both("what is refused", normal, "14 13 0 t0 2 1 1 8 9 10 11 t156 t6 4 t101 6 9 7 9 t151 9 t6 4 t151 6 10 10 11 t65535");
+    both("a table that is not admitted", with(0, 0), "1 t5 13 14");
 
     /* Every variable goes in and comes out, in a record that is refused. */
     unsigned k = 0;
@@ -761,7 +831,7 @@ static void manual(void)
     MUNASIREL_M9_TIMES(NUMBERED)
     MUNASIREL_M9_FLAGS(IN_TURNS)
     check("m9", "names", "count", k == 98);
-    munasirel_m9_moved moved = munasirel_m9_advance(v, normal, 13, 0, 0, 0);
+    munasirel_m9_moved moved = munasirel_m9_advance(v, normal, 14, 0, 0, 0);
     check("m9", "every variable", "number", moved.number == 5 && moved.rule == 0);
     check("m9", "every variable", "variables", same_variables(&moved.variables, &v));
     moved = munasirel_m9_advance(v, normal, 1, 1, 0, 0);
@@ -777,6 +847,25 @@ static void manual(void)
     moved = munasirel_m9_advance(v, normal, 11, 0, 0, 0);
     v.FromNeu_CloseClutch = false;
     check("m9", "FINAL with errors up", "variables", moved.number == 0 && same_variables(&moved.variables, &v));
+
+    /* A reset lowers every flag, whatever is up, and keeps isNeu and the times; it asks for one of the controller's errors. */
+    for (int neutral = 0; neutral < 2; neutral++) {
+#define RAISED(name) v.name = true;
+        MUNASIREL_M9_FLAGS(RAISED)
+        MUNASIREL_M9_TIMES(NUMBERED)
+        v.isNeu = neutral;
+        moved = munasirel_m9_advance(v, normal, 13, 0, 0, 0);
+        check("m9", "a reset with every flag up", "flags", moved.number == 0 && flags_up(&moved.variables) == (unsigned)neutral);
+#define LOWERED(name) v.name = false;
+        MUNASIREL_M9_FLAGS(LOWERED)
+        v.isNeu = neutral;
+        check("m9", "a reset with every flag up", "variables", same_variables(&moved.variables, &v));
+        moved = munasirel_m9_advance(v, normal, 13, 0, 0, 0);
+        check("m9", "a reset with no flag up", "number", moved.number == 7 && same_variables(&moved.variables, &v));
+        v.Error_Clutch_Open = v.Error_Clutch_Close = v.Error_Gear_Release = v.Error_Gear_Set = true;
+        moved = munasirel_m9_advance(v, normal, 13, 0, 0, 0);
+        check("m9", "a reset with the devices' errors alone", "number", moved.number == 7 && same_variables(&moved.variables, &v));
+    }
 }
 
 int main(void)

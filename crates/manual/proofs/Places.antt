@@ -91,23 +91,23 @@ phases =
     ∷ phase opening up2 Time.«FromNeu_RequestOpenClutchT» Time.RequestFromNeuT Flag.«FromNeu_OpenClutch» Flag.«Error_FromNeu_OpenClutch» true
     ∷ phase setting up3 Time.«FromNeu_SyncSpeedT» Time.RequestFromNeuT Flag.«FromNeu_SetGear_NoClutch» Flag.«Error_FromNeu_SetGear_NoClutch» true
     ∷ phase setting up4 Time.«FromNeu_OpenClutchT» Time.RequestFromNeuT Flag.«FromNeu_SetGear_Clutch» Flag.«Error_FromNeu_SetGear_Clutch» true
-    ∷ phase closing up5 Time.«FromNeu_SetGear_ClutchT» Time.RequestFromNeuT Flag.«FromNeu_CloseClutch» Flag.«Error_FromNeu_CloseClutch» true
+    ∷ phase closing up5 Time.«FromNeu_SetGear_ClutchT» Time.RequestFromNeuT Flag.«FromNeu_CloseClutch» Flag.«Error_FromNeu_CloseClutch» false
     ∷ phase zeroing up6 Time.RequestNoNeuT Time.RequestNoNeuT Flag.«NoNeu_ZeroTorque» Flag.«NoNeu_ZeroTorque» false
     ∷ phase opening up7 Time.«NoNeu_RequestOpenClutch_ReleasingT» Time.RequestNoNeuT Flag.«NoNeu_OpenClutch_Releasing» Flag.«Error_NoNeu_OpenClutch_Releasing» false
     ∷ phase releasing up8 Time.«NoNeu_ZeroTorqueT» Time.RequestNoNeuT Flag.«NoNeu_Release_NoClutch» Flag.«Error_NoNeu_Release_NoClutch» false
     ∷ phase releasing up9 Time.«NoNeu_OpenClutch_ReleasingT» Time.RequestNoNeuT Flag.«NoNeu_Release_Clutch» Flag.«Error_NoNeu_Release_Clutch» false
-    ∷ phase sync up10 Time.«NoNeu_Release_NoClutchT» Time.RequestNoNeuT Flag.«NoNeu_SyncSpeed» Flag.«NoNeu_SyncSpeed» false
-    ∷ phase opening up11 Time.«NoNeu_RequestOpenClutch_SettingT» Time.RequestNoNeuT Flag.«NoNeu_OpenClutch_Setting» Flag.«Error_NoNeu_OpenClutch_Setting» false
-    ∷ phase setting up12 Time.«NoNeu_SyncSpeedT» Time.RequestNoNeuT Flag.«NoNeu_SetGear_NoClutch» Flag.«Error_NoNeu_SetGear_NoClutch» false
-    ∷ phase setting up13 Time.«NoNeu_OpenClutch_SettingT» Time.RequestNoNeuT Flag.«NoNeu_SetGear_SettingClutch» Flag.«Error_NoNeu_SetGear_SettingClutch» false
-    ∷ phase setting up14 Time.«NoNeu_Release_ClutchT» Time.RequestNoNeuT Flag.«NoNeu_SetGear_ReleasingClutch» Flag.«Error_NoNeu_SetGear_ReleasingClutch» false
+    ∷ phase sync up10 Time.«NoNeu_Release_NoClutchT» Time.RequestNoNeuT Flag.«NoNeu_SyncSpeed» Flag.«NoNeu_SyncSpeed» true
+    ∷ phase opening up11 Time.«NoNeu_RequestOpenClutch_SettingT» Time.RequestNoNeuT Flag.«NoNeu_OpenClutch_Setting» Flag.«Error_NoNeu_OpenClutch_Setting» true
+    ∷ phase setting up12 Time.«NoNeu_SyncSpeedT» Time.RequestNoNeuT Flag.«NoNeu_SetGear_NoClutch» Flag.«Error_NoNeu_SetGear_NoClutch» true
+    ∷ phase setting up13 Time.«NoNeu_OpenClutch_SettingT» Time.RequestNoNeuT Flag.«NoNeu_SetGear_SettingClutch» Flag.«Error_NoNeu_SetGear_SettingClutch» true
+    ∷ phase setting up14 Time.«NoNeu_Release_ClutchT» Time.RequestNoNeuT Flag.«NoNeu_SetGear_ReleasingClutch» Flag.«Error_NoNeu_SetGear_ReleasingClutch» true
     ∷ phase closing up15 Time.«NoNeu_SetGear_SettingClutchT» Time.RequestNoNeuT Flag.«NoNeu_CloseClutch_Setting» Flag.«Error_NoNeu_CloseClutch_Setting» false
     ∷ phase closing up16 Time.«NoNeu_SetGear_ReleasingClutchT» Time.RequestNoNeuT Flag.«NoNeu_CloseClutch_Releasing» Flag.«Error_NoNeu_CloseClutch_Releasing» false
     ∷ phase zeroing up17 Time.RequestToNeuT Time.RequestToNeuT Flag.«ToNeu_ZeroTorque» Flag.«ToNeu_ZeroTorque» false
     ∷ phase opening up18 Time.«ToNeu_RequestOpenClutchT» Time.RequestToNeuT Flag.«ToNeu_OpenClutch» Flag.«Error_ToNeu_OpenClutch» false
     ∷ phase releasing up19 Time.«ToNeu_ZeroTorqueT» Time.RequestToNeuT Flag.«ToNeu_Release_NoClutch» Flag.«Error_ToNeu_Release_NoClutch» false
     ∷ phase releasing up20 Time.«ToNeu_OpenClutchT» Time.RequestToNeuT Flag.«ToNeu_Release_Clutch» Flag.«Error_ToNeu_Release_Clutch» false
-    ∷ phase closing up21 Time.«ToNeu_Release_ClutchT» Time.RequestToNeuT Flag.«ToNeu_CloseClutch» Flag.«Error_ToNeu_CloseClutch» false
+    ∷ phase closing up21 Time.«ToNeu_Release_ClutchT» Time.RequestToNeuT Flag.«ToNeu_CloseClutch» Flag.«Error_ToNeu_CloseClutch» true
     ∷ [])
 
 abbrev nowhere : Phase
@@ -172,7 +172,7 @@ up (at p g) = upIn (phaseOf p) g
 up (done p) = phaseOf p .taken ∷ upIn (phaseOf p) 3
 up (error p) = phaseOf p .error ∷ upIn (phaseOf p) 4
 
--- to neutral ends in neutral, by phase 19 or 21
+-- a shift is done in neutral by phase 19, which releases, or 21
 abbrev pub neutralAt : Place → Bool
 neutralAt (rest b) = b
 neutralAt (at p g) = phaseOf p .neutral

@@ -10,7 +10,7 @@ use Rattle.limits.specs.declared.Table.{Table}
 use Rattle.phases.specs.Phases.{unfinished, engine}
 use Rattle.shift.specs.declared.State.{State}
 use Rattle.shift.specs.declared.Step.{Step}
-use Rattle.shift.specs.declared.Step.the-variants.{FromNeutral, GearToGear, ToNeutral, Deliver, DeviceGood, DeviceFailed, EngineWaits, Take, AskClutch, RaiseError, Finish, Tick}
+use Rattle.shift.specs.declared.Step.the-variants.{FromNeutral, GearToGear, ToNeutral, Deliver, DeviceGood, DeviceFailed, EngineWaits, Take, AskClutch, RaiseError, Finish, Tick, Reset}
 use Rattle.shift.specs.States.{good}
 use Rattle.shift.specs.Steps.{allowed, shiftsIn, takeBound, stageBound, phaseBound, limited}
 
@@ -40,6 +40,7 @@ plainly t s (Tick n) =
     ∷ (asked (limited s) (s .clock + n) (stageBound t s) ! 12)
     ∷ (asked (unfinished (s .phase)) (s .clock + n) (phaseBound t s) ! 11)
     ∷ []
+plainly t s Reset = allowed t s Reset
 
 pub plain : (t : Table) (s : State) (x : Step) → allowed t s x ≡ plainly t s x
 plain t s FromNeutral = refl
@@ -55,3 +56,4 @@ plain t s RaiseError = refl
 plain t s Finish = refl
 plain t s (Tick n) =
     rw (held (limited s) (s .clock + n) (stageBound t s), held (unfinished (s .phase)) (s .clock + n) (phaseBound t s))
+plain t s Reset = refl

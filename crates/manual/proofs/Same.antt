@@ -8,7 +8,7 @@ use Rattle.checks.specs.Checks.{first}
 use Rattle.limits.specs.declared.Table.{Table}
 use Rattle.shift.specs.declared.State.{State}
 use Rattle.shift.specs.declared.Step.{Step}
-use Rattle.shift.specs.declared.Step.the-variants.{FromNeutral, GearToGear, ToNeutral, Deliver, DeviceGood, DeviceFailed, EngineWaits, Take, AskClutch, RaiseError, Finish, Tick}
+use Rattle.shift.specs.declared.Step.the-variants.{FromNeutral, GearToGear, ToNeutral, Deliver, DeviceGood, DeviceFailed, EngineWaits, Take, AskClutch, RaiseError, Finish, Tick, Reset}
 use Rattle.shift.specs.Steps.{effect}
 use Rattle.shift.specs.Answers.{listed}
 use Rattle.manual.specs.declared.Variables.{Variables}
@@ -31,7 +31,7 @@ pub record Fact : Type 0 where
 
 abbrev pub steps : ℕ → List Step
 steps n =
-    FromNeutral ∷ GearToGear ∷ ToNeutral ∷ Deliver ∷ DeviceGood ∷ DeviceFailed ∷ EngineWaits ∷ Take ∷ AskClutch ∷ RaiseError ∷ Finish ∷ Tick n ∷ []
+    FromNeutral ∷ GearToGear ∷ ToNeutral ∷ Deliver ∷ DeviceGood ∷ DeviceFailed ∷ EngineWaits ∷ Take ∷ AskClutch ∷ RaiseError ∷ Finish ∷ Tick n ∷ Reset ∷ []
 
 module _ (t : Table) (w : Variables) (s : State) where
   abbrev pub theirs : Place → Step → ℕ

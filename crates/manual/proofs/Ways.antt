@@ -5,7 +5,7 @@ use Prim.Native.Nat.{ℕ}
 use lib.Dec.{eqb}
 use Rattle.phases.specs.Phases.{nextOf, clutchOf}
 use Rattle.shift.specs.declared.Step.{Step}
-use Rattle.shift.specs.declared.Step.the-variants.{FromNeutral, GearToGear, ToNeutral, Deliver, DeviceGood, DeviceFailed, EngineWaits, Take, AskClutch, RaiseError, Finish, Tick}
+use Rattle.shift.specs.declared.Step.the-variants.{FromNeutral, GearToGear, ToNeutral, Deliver, DeviceGood, DeviceFailed, EngineWaits, Take, AskClutch, RaiseError, Finish, Tick, Reset}
 use Rattle.manual.proofs.Places.{Place, has, engines, lasts, fallible, neutralAt}
 use Rattle.manual.proofs.Places.Place.{rest, at, done, error}
 
@@ -27,6 +27,12 @@ isDone (at p g) = false
 isDone (done p) = true
 isDone (error p) = false
 
+abbrev isError : Place → Bool
+isError (rest b) = false
+isError (at p g) = false
+isError (done p) = false
+isError (error p) = true
+
 abbrev pub goes : Place → Step → Bool
 goes c FromNeutral = atRest (λ b. b) c
 goes c GearToGear = atRest not c
@@ -40,6 +46,7 @@ goes c AskClutch = inShift (λ p g. eqb g 4 && has p engines) c
 goes c RaiseError = inShift (λ p g. eqb g 4 && has p fallible) c
 goes c Finish = isDone c
 goes c (Tick n) = true
+goes c Reset = isError c
 
 abbrev shifted : (ℕ → Place) → Place → Place
 shifted f (rest b) = rest b
@@ -60,6 +67,7 @@ leads c AskClutch = shifted (λ p. at (clutchOf p) 1) c
 leads c RaiseError = shifted error c
 leads c Finish = rest (neutralAt c)
 leads c (Tick n) = c
+leads c Reset = rest (neutralAt c)
 
 -- one less than the number that refuses what the flags don't allow: 8 for a request at rest, else 7
 abbrev requested : Place → ℕ
@@ -81,3 +89,4 @@ refusal c AskClutch = 6
 refusal c RaiseError = 6
 refusal c Finish = 6
 refusal c (Tick n) = 6
+refusal c Reset = 6

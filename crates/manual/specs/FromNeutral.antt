@@ -1,4 +1,5 @@
--- Machine m9: scenario 1, from neutral, in the manual's order and under its labels. What document 01 settles is marked on its line.
+-- Machine m9: scenario 1, from neutral, in the manual's order and under its labels. What documents 01 and 02
+-- settle is marked on its line.
 -- Assumes nothing.
 use mathlib.Core.Bool.{false, not}
 use mathlib.Core.List.{[], _∷_}
@@ -100,6 +101,7 @@ abbrev pub «FromNeu_SetGear_Clutch» : Variables → Event
     ∷ [])
     (raise Flag.«FromNeu_SetGear_Clutch»  -- act1
     ∷ stamp Time.«FromNeu_SetGear_ClutchT»  -- act2
+    ∷ setNeu false  -- 02: taking a set order makes the box in gear; not printed
     ∷ [])
     v
 
@@ -124,7 +126,7 @@ abbrev pub «FromNeu_CloseClutch» : Variables → Event
     ∷ (v .«Clutch_Close» ! 7)  -- grd4
     ∷ [])
     (raise Flag.«FromNeu_CloseClutch»  -- act1
-    ∷ setNeu false  -- act2
+    -- act2; 02: left out, as entering 22 no longer moves the box; printed isNeu := FALSE
     ∷ [])
     v
 

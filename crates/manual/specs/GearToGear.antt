@@ -1,6 +1,7 @@
--- Machine m9: scenario 2, gear to gear, in the manual's order and under its labels. What document 01 settles is marked on its line.
+-- Machine m9: scenario 2, gear to gear, in the manual's order and under its labels. What documents 01 and 02
+-- settle is marked on its line.
 -- Assumes nothing.
-use mathlib.Core.Bool.{not}
+use mathlib.Core.Bool.{true, false, not}
 use mathlib.Core.List.{[], _∷_}
 use Prim.Native.Nat.{_+_}
 use lib.Dec.{leb}
@@ -9,7 +10,7 @@ use Rattle.limits.specs.declared.Table.{Table}
 use Rattle.manual.specs.declared.Variables.{Variables}
 use Rattle.manual.specs.declared.Event.{Event}
 use Rattle.manual.specs.Names.{Flag, Time}
-use Rattle.manual.specs.Variables.{raise, stamp}
+use Rattle.manual.specs.Variables.{raise, stamp, setNeu}
 use Rattle.manual.specs.Events.{event}
 
 abbrev pub «NoNeu_ZeroTorque» : Table → Variables → Event
@@ -75,6 +76,7 @@ abbrev pub «NoNeu_Release_NoClutch» : Variables → Event
     ∷ [])
     (raise Flag.«NoNeu_Release_NoClutch»  -- act1
     ∷ stamp Time.«NoNeu_Release_NoClutchT»  -- act2
+    ∷ setNeu true  -- 02: taking a release order makes the box neutral; not printed
     ∷ [])
     v
 
@@ -100,6 +102,7 @@ abbrev pub «NoNeu_Release_Clutch» : Variables → Event
     ∷ [])
     (raise Flag.«NoNeu_Release_Clutch»  -- act1
     ∷ stamp Time.«NoNeu_Release_ClutchT»  -- act2
+    ∷ setNeu true  -- 02: taking a release order makes the box neutral; not printed
     ∷ [])
     v
 
@@ -177,6 +180,7 @@ abbrev pub «NoNeu_SetGear_NoClutch» : Variables → Event
     ∷ (v .«Gear_Set» ! 7)  -- grd4
     ∷ [])
     (raise Flag.«NoNeu_SetGear_NoClutch»  -- act1
+    ∷ setNeu false  -- 02: taking a set order makes the box in gear; not printed
     ∷ [])
     v
 
@@ -202,6 +206,7 @@ abbrev pub «NoNeu_SetGear_ReleasingClutch» : Variables → Event
     ∷ [])
     (raise Flag.«NoNeu_SetGear_ReleasingClutch»  -- act1
     ∷ stamp Time.«NoNeu_SetGear_ReleasingClutchT»  -- act2
+    ∷ setNeu false  -- 02: taking a set order makes the box in gear; not printed
     ∷ [])
     v
 
@@ -227,6 +232,7 @@ abbrev pub «NoNeu_SetGear_SettingClutch» : Variables → Event
     ∷ [])
     (raise Flag.«NoNeu_SetGear_SettingClutch»  -- act1
     ∷ stamp Time.«NoNeu_SetGear_SettingClutchT»  -- act2
+    ∷ setNeu false  -- 02: taking a set order makes the box in gear; not printed
     ∷ [])
     v
 

@@ -7,6 +7,7 @@ pub mod ToNeutral
 pub mod GearToGear
 pub mod Devices
 pub mod Final
+pub mod Reset
 pub mod Ticks
 pub mod Steps
 pub mod Answers

@@ -1,9 +1,9 @@
--- Document 01's twelve steps on the manual's variables: the events that are a step's, in the manual's order.
+-- Document 01's twelve steps and document 02's thirteenth on the manual's variables: the events that are a step's, in the manual's order.
 -- Assumes nothing.
 use mathlib.Core.List.{[], _∷_}
 use Rattle.limits.specs.declared.Table.{Table}
 use Rattle.shift.specs.declared.Step.{Step}
-use Rattle.shift.specs.declared.Step.the-variants.{FromNeutral, GearToGear, ToNeutral, Deliver, DeviceGood, DeviceFailed, EngineWaits, Take, AskClutch, RaiseError, Finish, Tick}
+use Rattle.shift.specs.declared.Step.the-variants.{FromNeutral, GearToGear, ToNeutral, Deliver, DeviceGood, DeviceFailed, EngineWaits, Take, AskClutch, RaiseError, Finish, Tick, Reset}
 use Rattle.manual.specs.declared.Variables.{Variables}
 use Rattle.manual.specs.declared.Event.{Event}
 use Rattle.manual.specs.Events.{firstOf}
@@ -13,6 +13,7 @@ use Rattle.manual.specs.ToNeutral.{«ToNeu_ZeroTorque», «ToNeu_Request
 use Rattle.manual.specs.GearToGear.{«NoNeu_ZeroTorque», «NoNeu_RequestOpenClutch_Releasing», «NoNeu_OpenClutch_Releasing», «Error_NoNeu_OpenClutch_Releasing», «NoNeu_Release_NoClutch», «Error_NoNeu_Release_NoClutch», «NoNeu_Release_Clutch», «Error_NoNeu_Release_Clutch», «NoNeu_SyncSpeed», «NoNeu_RequestOpenClutch_Setting», «NoNeu_OpenClutch_Setting», «Error_NoNeu_OpenClutch_Setting», «NoNeu_SetGear_NoClutch», «Error_NoNeu_SetGear_NoClutch», «NoNeu_SetGear_ReleasingClutch», «Error_NoNeu_SetGear_ReleasingClutch», «NoNeu_SetGear_SettingClutch», «Error_NoNeu_SetGear_SettingClutch», «NoNeu_CloseClutch_Setting», «Error_NoNeu_CloseClutch_Setting», «NoNeu_CloseClutch_Releasing», «Error_NoNeu_CloseClutch_Releasing»}
 use Rattle.manual.specs.Devices.{«Engine_Request_SyncSpeed», «Engine_SyncSpeed», «Engine_WaitForSyncClutch», «Engine_Request_ZeroTorque», «Engine_ZeroTorque», «Engine_WaitForZeroClutch», «Clutch_Request_Open», «Clutch_Open», «Error_Clutch_Open», «Clutch_Request_Close», «Clutch_Close», «Error_Clutch_Close», «Gear_Request_Release», «Gear_Release», «Error_Gear_Release», «Gear_Request_Set», «Gear_Set», «Error_Gear_Set»}
 use Rattle.manual.specs.Final.{FINAL}
+use Rattle.manual.specs.Reset.{RESET}
 use Rattle.manual.specs.Ticks.{«Tick_Tock»}
 
 abbrev pub deliver : Variables → Event
@@ -150,3 +151,4 @@ stepped t v AskClutch = askClutch t v
 stepped t v RaiseError = raiseError v
 stepped t v Finish = FINAL v
 stepped t v (Tick n) = «Tick_Tock» t v n
+stepped t v Reset = RESET v

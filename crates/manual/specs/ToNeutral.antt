@@ -1,4 +1,5 @@
--- Machine m9: scenario 3, to neutral, in the manual's order and under its labels. What document 01 settles is marked on its line.
+-- Machine m9: scenario 3, to neutral, in the manual's order and under its labels. What documents 01 and 02
+-- settle is marked on its line.
 -- Assumes nothing.
 use mathlib.Core.Bool.{true, not}
 use mathlib.Core.List.{[], _∷_}
@@ -100,6 +101,7 @@ abbrev pub «ToNeu_Release_Clutch» : Variables → Event
     ∷ [])
     (raise Flag.«ToNeu_Release_Clutch»  -- act1
     ∷ stamp Time.«ToNeu_Release_ClutchT»  -- act2
+    ∷ setNeu true  -- 02: taking a release order makes the box neutral; not printed
     ∷ [])
     v
 
@@ -124,7 +126,7 @@ abbrev pub «ToNeu_CloseClutch» : Variables → Event
     ∷ (v .«Clutch_Close» ! 7)  -- grd4
     ∷ [])
     (raise Flag.«ToNeu_CloseClutch»  -- act1
-    ∷ setNeu true  -- act2
+    -- act2; 02: left out, as entering 22 no longer moves the box; printed isNeu := TRUE
     ∷ [])
     v
 

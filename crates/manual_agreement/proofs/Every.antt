@@ -9,7 +9,7 @@ use lib.Dec.{T, eqb, eqb→eq}
 use lib.ListN.{getD}
 use Rattle.checks.proofs.Tests.{either, left, right}
 use Rattle.shift.specs.declared.Step.{Step}
-use Rattle.shift.specs.declared.Step.the-variants.{FromNeutral, GearToGear, ToNeutral, Deliver, DeviceGood, DeviceFailed, EngineWaits, Take, AskClutch, RaiseError, Finish, Tick}
+use Rattle.shift.specs.declared.Step.the-variants.{FromNeutral, GearToGear, ToNeutral, Deliver, DeviceGood, DeviceFailed, EngineWaits, Take, AskClutch, RaiseError, Finish, Tick, Reset}
 use Rattle.manual.proofs.Places.{Place, has, orders, lasts, fallible, stages, valid}
 use Rattle.manual.proofs.Places.Place.{rest, at, done, error}
 use Rattle.manual.proofs.Same.{steps}
@@ -65,6 +65,7 @@ amount AskClutch = 0
 amount RaiseError = 0
 amount Finish = 0
 amount (Tick n) = n
+amount Reset = 0
 
 pub each : {A : Type 0} (f g : Step → A) (x : Step) → map f (steps (amount x)) ≡ map g (steps (amount x)) → f x ≡ g x
 each f g FromNeutral e = ap (λ l. getD l 0 (f FromNeutral)) e
@@ -79,3 +80,4 @@ each f g AskClutch e = ap (λ l. getD l 8 (f AskClutch)) e
 each f g RaiseError e = ap (λ l. getD l 9 (f RaiseError)) e
 each f g Finish e = ap (λ l. getD l 10 (f Finish)) e
 each f g (Tick n) e = ap (λ l. getD l 11 (f (Tick n))) e
+each f g Reset e = ap (λ l. getD l 12 (f Reset)) e

@@ -24,6 +24,7 @@ use Rattle.manual_devices.proofs.Gear_Request_Set.Reads as Gear-Request
 use Rattle.manual_devices.proofs.Gear_Set.Reads as Gear-Set-reads
 use Rattle.manual_devices.proofs.Error_Gear_Set.Reads as Error-Gear-Set-reads
 use Rattle.manual_devices.proofs.FINAL.Reads as FINAL-reads
+use Rattle.manual_devices.proofs.RESET.Reads as RESET-reads
 
 pub RequestFromNeu : Determined RequestFromNeu-reads.Post
 RequestFromNeu κs a x y at at′ p q = p ∙ sym q
@@ -90,3 +91,6 @@ Error-Gear-Set κs a x y at at′ p q = p ∙ sym q
 
 pub FINAL : Determined FINAL-reads.Post
 FINAL κs a x y at at′ p q = p ∙ sym q
+
+pub RESET : Determined RESET-reads.Post
+RESET κs a x y at at′ p q = p ∙ sym q

@@ -1,8 +1,9 @@
-// Machine m9: the three requests, engine, clutch and gear, and FINAL: a function for each event, with the manual's labels.
+// Machine m9: the three requests, engine, clutch and gear, and FINAL: a function for each event, with the manual's labels; and reset.
 ghost use mathlib.Core.Path.{_≡_};
 ghost use Rattle.manual.specs.Requests.{RequestFromNeu, RequestNoNeu, RequestToNeu};
 ghost use Rattle.manual.specs.Devices.{«Engine_Request_SyncSpeed», «Engine_SyncSpeed», «Engine_WaitForSyncClutch», «Engine_Request_ZeroTorque», «Engine_ZeroTorque», «Engine_WaitForZeroClutch», «Clutch_Request_Open», «Clutch_Open», «Error_Clutch_Open», «Clutch_Request_Close», «Clutch_Close», «Error_Clutch_Close», «Gear_Request_Release», «Gear_Release», «Error_Gear_Release», «Gear_Request_Set», «Gear_Set», «Error_Gear_Set»};
 ghost use Rattle.manual.specs.Final.{FINAL};
+ghost use Rattle.manual.specs.Reset.{RESET};
 use manual::Event;
 use manual::Variables;
 use manual::on_side;
@@ -378,6 +379,97 @@ pub fn FINAL(mut v: Variables) -> Event
     v.Clutch_Request_Close = false; // act40
     v.Gear_Request_Release = false; // act41
     v.Gear_Request_Set = false; // act42
+    Event {
+        enabled,
+        number: 0,
+        after: v,
+    }
+}
+
+// Not the manual's: document 02's reset.
+pub fn RESET(mut v: Variables) -> Event
+    ensures { λ r. ⌜ r ≡ RESET v ⌝ }
+{
+    let enabled = v.Error_FromNeu_OpenClutch
+        | v.Error_FromNeu_SetGear_NoClutch
+        | v.Error_FromNeu_SetGear_Clutch
+        | v.Error_FromNeu_CloseClutch
+        | v.Error_ToNeu_OpenClutch
+        | v.Error_ToNeu_Release_NoClutch
+        | v.Error_ToNeu_Release_Clutch
+        | v.Error_ToNeu_CloseClutch
+        | v.Error_NoNeu_OpenClutch_Releasing
+        | v.Error_NoNeu_Release_Clutch
+        | v.Error_NoNeu_Release_NoClutch
+        | v.Error_NoNeu_OpenClutch_Setting
+        | v.Error_NoNeu_SetGear_NoClutch
+        | v.Error_NoNeu_SetGear_ReleasingClutch
+        | v.Error_NoNeu_SetGear_SettingClutch
+        | v.Error_NoNeu_CloseClutch_Releasing
+        | v.Error_NoNeu_CloseClutch_Setting;
+    v.RequestFromNeu = false;
+    v.RequestNoNeu = false;
+    v.RequestToNeu = false;
+    v.FromNeu_SyncSpeed = false;
+    v.FromNeu_OpenClutch = false;
+    v.FromNeu_SetGear_NoClutch = false;
+    v.FromNeu_SetGear_Clutch = false;
+    v.FromNeu_CloseClutch = false;
+    v.Error_FromNeu_OpenClutch = false;
+    v.Error_FromNeu_SetGear_NoClutch = false;
+    v.Error_FromNeu_SetGear_Clutch = false;
+    v.Error_FromNeu_CloseClutch = false;
+    v.ToNeu_ZeroTorque = false;
+    v.ToNeu_OpenClutch = false;
+    v.Error_ToNeu_OpenClutch = false;
+    v.ToNeu_Release_NoClutch = false;
+    v.Error_ToNeu_Release_NoClutch = false;
+    v.ToNeu_Release_Clutch = false;
+    v.Error_ToNeu_Release_Clutch = false;
+    v.ToNeu_CloseClutch = false;
+    v.Error_ToNeu_CloseClutch = false;
+    v.NoNeu_ZeroTorque = false;
+    v.NoNeu_Release_NoClutch = false;
+    v.NoNeu_OpenClutch_Releasing = false;
+    v.NoNeu_Release_Clutch = false;
+    v.NoNeu_SyncSpeed = false;
+    v.NoNeu_OpenClutch_Setting = false;
+    v.NoNeu_SetGear_NoClutch = false;
+    v.NoNeu_SetGear_ReleasingClutch = false;
+    v.NoNeu_SetGear_SettingClutch = false;
+    v.NoNeu_CloseClutch_Releasing = false;
+    v.NoNeu_CloseClutch_Setting = false;
+    v.Error_NoNeu_OpenClutch_Releasing = false;
+    v.Error_NoNeu_Release_Clutch = false;
+    v.Error_NoNeu_Release_NoClutch = false;
+    v.Error_NoNeu_OpenClutch_Setting = false;
+    v.Error_NoNeu_SetGear_NoClutch = false;
+    v.Error_NoNeu_SetGear_ReleasingClutch = false;
+    v.Error_NoNeu_SetGear_SettingClutch = false;
+    v.Error_NoNeu_CloseClutch_Releasing = false;
+    v.Error_NoNeu_CloseClutch_Setting = false;
+    v.Engine_SyncSpeed = false;
+    v.Engine_WaitForSyncClutch = false;
+    v.Engine_ZeroTorque = false;
+    v.Engine_WaitForZeroClutch = false;
+    v.Clutch_Open = false;
+    v.Error_Clutch_Open = false;
+    v.Clutch_Close = false;
+    v.Error_Clutch_Close = false;
+    v.Gear_Release = false;
+    v.Error_Gear_Release = false;
+    v.Gear_Set = false;
+    v.Error_Gear_Set = false;
+    v.FromNeu_RequestOpenClutch = false;
+    v.ToNeu_RequestOpenClutch = false;
+    v.NoNeu_RequestOpenClutch_Releasing = false;
+    v.NoNeu_RequestOpenClutch_Setting = false;
+    v.Engine_Request_SyncSpeed = false;
+    v.Engine_Request_ZeroTorque = false;
+    v.Clutch_Request_Open = false;
+    v.Clutch_Request_Close = false;
+    v.Gear_Request_Release = false;
+    v.Gear_Request_Set = false;
     Event {
         enabled,
         number: 0,

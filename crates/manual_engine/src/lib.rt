@@ -1,4 +1,4 @@
-// The twelve steps of document 01 on the variables of machine m9: of the events that are a step's, the first that is enabled.
+// The thirteen steps on the variables of machine m9: of the events that are a step's, the first that is enabled.
 ghost use mathlib.Core.Path.{_≡_};
 ghost use mathlib.Core.Bool.{cond};
 ghost use mathlib.Core.List.{[], _∷_};
@@ -246,6 +246,7 @@ fn moved(v: Variables, table: Table, x: Step) -> Moved
         Step::Tick(tick) => {
             return manual_ticks::Tick_Tock(v, table, tick);
         }
+        Step::Reset => manual_devices::RESET(v),
     };
     settled(e, v)
 }

@@ -81,6 +81,7 @@ pub fn NoNeu_Release_NoClutch(mut v: Variables) -> Event
         & v.Gear_Release; // grd4
     v.NoNeu_Release_NoClutch = true; // act1
     v.NoNeu_Release_NoClutchT = v.time; // act2
+    v.isNeu = true; // 02: taking a release order makes the box neutral; not printed
     Event {
         enabled,
         number: 0,
@@ -112,6 +113,7 @@ pub fn NoNeu_Release_Clutch(mut v: Variables) -> Event
         & v.Gear_Release; // grd4
     v.NoNeu_Release_Clutch = true; // act1
     v.NoNeu_Release_ClutchT = v.time; // act2
+    v.isNeu = true; // 02: taking a release order makes the box neutral; not printed
     Event {
         enabled,
         number: 0,
@@ -207,6 +209,7 @@ pub fn NoNeu_SetGear_NoClutch(mut v: Variables) -> Event
         & !v.NoNeu_SetGear_NoClutch // grd3
         & v.Gear_Set; // grd4
     v.NoNeu_SetGear_NoClutch = true; // act1
+    v.isNeu = false; // 02: taking a set order makes the box in gear; not printed
     Event {
         enabled,
         number: 0,
@@ -238,6 +241,7 @@ pub fn NoNeu_SetGear_ReleasingClutch(mut v: Variables) -> Event
         & v.Gear_Set; // grd4
     v.NoNeu_SetGear_ReleasingClutch = true; // act1
     v.NoNeu_SetGear_ReleasingClutchT = v.time; // act2
+    v.isNeu = false; // 02: taking a set order makes the box in gear; not printed
     Event {
         enabled,
         number: 0,
@@ -269,6 +273,7 @@ pub fn NoNeu_SetGear_SettingClutch(mut v: Variables) -> Event
         & v.Gear_Set; // grd4
     v.NoNeu_SetGear_SettingClutch = true; // act1
     v.NoNeu_SetGear_SettingClutchT = v.time; // act2
+    v.isNeu = false; // 02: taking a set order makes the box in gear; not printed
     Event {
         enabled,
         number: 0,

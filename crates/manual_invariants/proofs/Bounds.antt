@@ -13,7 +13,7 @@ use Rattle.checks.proofs.Tests.{left, case, passes}
 use Rattle.limits.specs.declared.Table.{Table}
 use Rattle.phases.specs.Phases.{orderOf, nextOf, clutchOf, phaseLimit, latestTake, engine}
 use Rattle.shift.specs.declared.Step.{Step}
-use Rattle.shift.specs.declared.Step.the-variants.{FromNeutral, GearToGear, ToNeutral, Deliver, DeviceGood, DeviceFailed, EngineWaits, Take, AskClutch, RaiseError, Finish, Tick}
+use Rattle.shift.specs.declared.Step.the-variants.{FromNeutral, GearToGear, ToNeutral, Deliver, DeviceGood, DeviceFailed, EngineWaits, Take, AskClutch, RaiseError, Finish, Tick, Reset}
 use Rattle.manual.specs.declared.Variables.{Variables}
 use Rattle.manual.specs.Variables.{timeOf, initialisation}
 use Rattle.manual.specs.Events.{answered, orElse}
@@ -114,6 +114,7 @@ module _ (t : Table) (w : Variables) where
   due c RaiseError = tail (tests c)
   due c Finish = []
   due c (Tick n) = inShift (λ p. inLimit n p ∷ tail (tests c)) c
+  due c Reset = []
 
   module _ (n : ℕ) where
     unfoldable found : Place → List (List Bool)
@@ -221,6 +222,7 @@ module _ (t : Table) (w : Variables) where
   due-holds c RaiseError h e z i = each-tail (tests c) i
   due-holds c Finish h e z i = tt
   due-holds c (Tick n) h e z i = due-at-tick n c h z i
+  due-holds c Reset h e z i = tt
 
   keeps :
       (c : Place) (x : Step) → T (valid c) → goes c x ≡ true → answered (stepped t (varsAt c w) x) ≡ 0 → Each (tests c)

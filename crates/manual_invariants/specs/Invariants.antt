@@ -7,7 +7,7 @@ use lib.Dec.{T, leb}
 use Rattle.limits.specs.declared.Table.{Table}
 use Rattle.manual.specs.declared.Variables.{Variables}
 use Rattle.manual.specs.Final.{FINAL}
-use Rattle.manual_reading.specs.Reading.{erred}
+use Rattle.manual.specs.Reset.{erred}
 
 -- an invariant, under the number of its label
 pub record Invariant : Type 0 where

@@ -113,6 +113,7 @@ pub fn FromNeu_SetGear_Clutch(mut v: Variables) -> Event
         & v.Gear_Set; // grd4
     v.FromNeu_SetGear_Clutch = true; // act1
     v.FromNeu_SetGear_ClutchT = v.time; // act2
+    v.isNeu = false; // 02: taking a set order makes the box in gear; not printed
     Event {
         enabled,
         number: 0,
@@ -143,7 +144,7 @@ pub fn FromNeu_CloseClutch(mut v: Variables) -> Event
         & !v.FromNeu_CloseClutch // grd3
         & v.Clutch_Close; // grd4
     v.FromNeu_CloseClutch = true; // act1
-    v.isNeu = false; // act2
+    // act2; 02: left out, as entering 22 no longer moves the box; printed isNeu := FALSE
     Event {
         enabled,
         number: 0,
@@ -271,6 +272,7 @@ pub fn ToNeu_Release_Clutch(mut v: Variables) -> Event
         & v.Gear_Release; // grd4
     v.ToNeu_Release_Clutch = true; // act1
     v.ToNeu_Release_ClutchT = v.time; // act2
+    v.isNeu = true; // 02: taking a release order makes the box neutral; not printed
     Event {
         enabled,
         number: 0,
@@ -301,7 +303,7 @@ pub fn ToNeu_CloseClutch(mut v: Variables) -> Event
         & !v.Error_ToNeu_CloseClutch // grd3
         & v.Clutch_Close; // grd4
     v.ToNeu_CloseClutch = true; // act1
-    v.isNeu = true; // act2
+    // act2; 02: left out, as entering 22 no longer moves the box; printed isNeu := TRUE
     Event {
         enabled,
         number: 0,

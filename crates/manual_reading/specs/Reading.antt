@@ -9,6 +9,7 @@ use Rattle.phases.specs.Phases.{atRest, done, error, orderOf}
 use Rattle.shift.specs.States.{neutral, inGear, none, sent, working, good, failed, waiting}
 use Rattle.manual.specs.declared.Variables.{Variables}
 use Rattle.manual.specs.Final.{FINAL}
+use Rattle.manual.specs.Reset.{erred}
 use Rattle.manual_reading.specs.declared.Phase.{Phase}
 use Rattle.manual_reading.specs.declared.Stage.{Stage}
 use Rattle.manual_reading.specs.declared.Read.{Read}
@@ -20,27 +21,6 @@ phase number time request = record { number = number; time = time; request = req
 -- what was found before, and where that is none this one, if its entering flag is up and its leaving flags are down
 unfoldable pub orPhase : Phase → ℕ → Bool → Bool → ℕ → ℕ → Phase
 orPhase found number entered left time request = cond (eqb (found .number) atRest && entered && not left) (phase number time request) found
-
--- an error flag of the controller is up
-abbrev pub erred : Variables → Bool
-erred v =
-    v .«Error_FromNeu_OpenClutch»
-    || v .«Error_FromNeu_SetGear_NoClutch»
-    || v .«Error_FromNeu_SetGear_Clutch»
-    || v .«Error_FromNeu_CloseClutch»
-    || v .«Error_ToNeu_OpenClutch»
-    || v .«Error_ToNeu_Release_NoClutch»
-    || v .«Error_ToNeu_Release_Clutch»
-    || v .«Error_ToNeu_CloseClutch»
-    || v .«Error_NoNeu_OpenClutch_Releasing»
-    || v .«Error_NoNeu_Release_Clutch»
-    || v .«Error_NoNeu_Release_NoClutch»
-    || v .«Error_NoNeu_OpenClutch_Setting»
-    || v .«Error_NoNeu_SetGear_NoClutch»
-    || v .«Error_NoNeu_SetGear_ReleasingClutch»
-    || v .«Error_NoNeu_SetGear_SettingClutch»
-    || v .«Error_NoNeu_CloseClutch_Releasing»
-    || v .«Error_NoNeu_CloseClutch_Setting»
 
 -- 23 by an error, 22 by what FINAL asks for; no flag leaves these two, and there they have no times
 unfoldable pub outside : Variables → Phase

@@ -12,7 +12,7 @@ use Rattle.checks.proofs.Tests.{case, either}
 use Rattle.checks.proofs.Ranges.{from}
 use Rattle.limits.specs.declared.Table.{Table}
 use Rattle.phases.specs.Phases.{orderOf, nextOf, clutchOf, deviceLimit, phaseLimit, latestTake, earliestAsk, engine}
-use Rattle.phases.specs.ByPhase.{enginePhases, has, deviceLimitIn, phaseLimitIn, exIn, deIn, nextPhase, clutchPhase}
+use Rattle.phases.specs.ByPhase.{setPhases, releasePhases, enginePhases, has, deviceLimitIn, phaseLimitIn, exIn, deIn, nextPhase, clutchPhase}
 
 module _ (t : Table) where
   pub device-limit-in : (p : ℕ) → 1 ≤ p → p < 22 → deviceLimit t (orderOf p) ≡ deviceLimitIn t p
@@ -33,7 +33,7 @@ next-in = from _ 1 21 (omega arith)
 pub clutch-in : (p : ℕ) → 1 ≤ p → p < 22 → clutchOf p ≡ clutchPhase p
 clutch-in = from _ 1 21 (omega arith)
 
--- ---- the engine phases
+-- ---- the phases of an order
 -- a phase that a list has is one of it; a phase is one of a list or it is not; what each of a list has, one of it has
 pub found : (ps : List ℕ) (p : ℕ) → T (has ps p) → OneOf ps p
 found [] p h = absurd h
@@ -62,3 +62,16 @@ engine-in p l m h = found enginePhases p (in-list p l m h)
 
 pub engine-of : (p : ℕ) → OneOf enginePhases p → T (engine p) × (1 ≤ p) × (p ≤ 21)
 engine-of = each _ enginePhases (omega arith)
+
+-- an order that is a set order, and one that is a release order
+set-list : (p : ℕ) → 1 ≤ p → p < 22 → orderOf p ≡ 5 → T (has setPhases p)
+set-list = from _ 1 21 (omega arith)
+
+pub set-in : (p : ℕ) → 1 ≤ p → p < 22 → orderOf p ≡ 5 → OneOf setPhases p
+set-in p l m h = found setPhases p (set-list p l m h)
+
+release-list : (p : ℕ) → 1 ≤ p → p < 22 → orderOf p ≡ 6 → T (has releasePhases p)
+release-list = from _ 1 21 (omega arith)
+
+pub release-in : (p : ℕ) → 1 ≤ p → p < 22 → orderOf p ≡ 6 → OneOf releasePhases p
+release-in p l m h = found releasePhases p (release-list p l m h)

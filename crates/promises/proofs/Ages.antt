@@ -19,7 +19,7 @@ use Rattle.shift.specs.declared.State.{State}
 use Rattle.shift.specs.declared.Reading.{Reading}
 use Rattle.shift.specs.declared.Reading.the-variants.{Means}
 use Rattle.shift.specs.declared.Step.{Step}
-use Rattle.shift.specs.declared.Step.the-variants.{FromNeutral, GearToGear, ToNeutral, Deliver, DeviceGood, DeviceFailed, EngineWaits, Take, AskClutch, RaiseError, Finish, Tick}
+use Rattle.shift.specs.declared.Step.the-variants.{FromNeutral, GearToGear, ToNeutral, Deliver, DeviceGood, DeviceFailed, EngineWaits, Take, AskClutch, RaiseError, Finish, Tick, Reset}
 use Rattle.shift.specs.Steps.{effect}
 use Rattle.shift.specs.Answers.{checks, guard, led}
 use Rattle.shift.specs.Runs.{run}
@@ -130,6 +130,7 @@ module _ (t : Table) (k : Kind) (s : State) (i : InTime t k s) where
       let j = i l m in
       let w = shifting (s .phase) (s .clock + n) l m in
       omega (arith, tests)
+  kept Reset h = omega arith
 
   pub kept-in-time : (r : Reading) → guard t s r ≡ 0 → InTime t (kindAfter k r) (led s r)
   kept-in-time = each-step (λ r. InTime t (kindAfter k r) (led s r)) t s kept

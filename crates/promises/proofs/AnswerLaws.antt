@@ -19,7 +19,7 @@ use Rattle.phases.specs.ByPhase.{has}
 use Rattle.phases.proofs.ByPhaseLaws.{found}
 use Rattle.shift.specs.declared.State.{State}
 use Rattle.shift.specs.declared.Step.{Step}
-use Rattle.shift.specs.declared.Step.the-variants.{FromNeutral, GearToGear, ToNeutral, Deliver, DeviceGood, DeviceFailed, EngineWaits, Take, AskClutch, RaiseError, Finish, Tick}
+use Rattle.shift.specs.declared.Step.the-variants.{FromNeutral, GearToGear, ToNeutral, Deliver, DeviceGood, DeviceFailed, EngineWaits, Take, AskClutch, RaiseError, Finish, Tick, Reset}
 use Rattle.shift.specs.declared.Reading.{Reading}
 use Rattle.shift.specs.declared.Reading.the-variants.{Means, WrongCode, WrongAmount}
 use Rattle.shift.specs.declared.Answer.{Answer}
@@ -72,6 +72,7 @@ stepOf code amount =
     ∷ RaiseError
     ∷ Finish
     ∷ Tick amount
+    ∷ Reset
     ∷ []) code FromNeutral
 
 coded : (x : Step) → stepOf (codeOf x) (amountOf x) ≡ x
@@ -87,6 +88,7 @@ coded AskClutch = refl
 coded RaiseError = refl
 coded Finish = refl
 coded (Tick n) = refl
+coded Reset = refl
 
 same-step : (x y : Step) → codeOf x ≡ codeOf y → amountOf x ≡ amountOf y → x ≡ y
 same-step x y c n = sym (coded x) ∙ ap (λ k. stepOf k (amountOf x)) c ∙ ap (stepOf (codeOf y)) n ∙ coded y

@@ -9,3 +9,6 @@ pub mod EffectLaws
 pub mod RefusalLaws
 pub mod AnswerLaws
 pub mod Exactly
+pub mod Boxes
+pub mod Errors
+pub mod Before

@@ -17,7 +17,7 @@ use Rattle.shift.specs.declared.State.{State}
 use Rattle.shift.specs.declared.Reading.{Reading}
 use Rattle.shift.specs.declared.Reading.the-variants.{Means}
 use Rattle.shift.specs.declared.Step.{Step}
-use Rattle.shift.specs.declared.Step.the-variants.{FromNeutral, GearToGear, ToNeutral, Deliver, DeviceGood, DeviceFailed, EngineWaits, Take, AskClutch, RaiseError, Finish, Tick}
+use Rattle.shift.specs.declared.Step.the-variants.{FromNeutral, GearToGear, ToNeutral, Deliver, DeviceGood, DeviceFailed, EngineWaits, Take, AskClutch, RaiseError, Finish, Tick, Reset}
 use Rattle.shift.specs.Answers.{checks, guard, led}
 use Rattle.shift.specs.Runs.{run}
 use Rattle.promises.proofs.Runs.{each-step, went-on}
@@ -65,6 +65,7 @@ module _ (t u : Table) (l : NowhereTighter t u) where
         let e = deviceLimit u (orderOf (s .phase)) in
         let g = stage-limits d e (device-limits (orderOf (s .phase)) o) (s .stage) (omega (arith, tests)) in
         omega (arith, tests, phase-limits (orderOf (s .phase)) o)
+    kept Reset h = h
 
     accepts : (r : Reading) → guard t s r ≡ 0 → guard u s r ≡ 0
     accepts = each-step (λ r. guard u s r ≡ 0) t s (λ x h. holds→first (checks u s (Means x)) (kept x h))

@@ -13,7 +13,7 @@ use Rattle.shift.specs.declared.State.{State}
 use Rattle.shift.specs.declared.Reading.{Reading}
 use Rattle.shift.specs.declared.Reading.the-variants.{Means, WrongCode, WrongAmount}
 use Rattle.shift.specs.declared.Step.{Step}
-use Rattle.shift.specs.declared.Step.the-variants.{FromNeutral, GearToGear, ToNeutral, Deliver, DeviceGood, DeviceFailed, EngineWaits, Take, AskClutch, RaiseError, Finish, Tick}
+use Rattle.shift.specs.declared.Step.the-variants.{FromNeutral, GearToGear, ToNeutral, Deliver, DeviceGood, DeviceFailed, EngineWaits, Take, AskClutch, RaiseError, Finish, Tick, Reset}
 use Rattle.shift.specs.Answers.{checks, guard}
 use Rattle.promises.specs.Allowed.{Shifting, Permitted}
 use Rattle.promises.proofs.Runs.{checked}
@@ -51,6 +51,7 @@ module _ (t : Table) (s : State) where
           },
         ),
       )
+  said Reset h = omega (arith, tests)
 
   -- and the other way
   pub meant : (x : Step) → Permitted t s (Means x) → Holds (checks t s (Means x))
@@ -87,6 +88,7 @@ module _ (t : Table) (s : State) where
       omega arith)
       in
       omega (arith, tests)
+  meant Reset h = omega (arith, tests)
 
 -- ---- the guard answers 0 exactly where what was read is permitted
 pub permitted : (t : Table) (s : State) (r : Reading) → (guard t s r ≡ 0) ↔ Permitted t s r

@@ -24,6 +24,7 @@ use Rattle.promises.proofs.Ages.{in-time, covered, sums-admitted}
 use Rattle.promises.proofs.Permitted.{permitted}
 use Rattle.promises.proofs.EffectLaws.{effects}
 use Rattle.promises.proofs.Exactly.{exact, only}
+use Rattle.promises.proofs.Boxes.{Stands, standing}
 
 -- ---- demand 2
 
@@ -54,6 +55,12 @@ judged-in-two-pieces = pieces
 pub beginnings-are-accepted :
     (t : Table) (s : State) (xs ys : List Reading) → run t s (xs ++ ys) .number ≡ 0 → run t s xs .number ≡ 0
 beginnings-are-accepted t s xs ys h = beginning t s xs ys h .0
+
+-- after every list of steps, accepted or refused, the box stands by phase; in a gear to gear shift it is neutral from the release
+-- taken to the set taken
+pub the-box-by-phase :
+    (t : Table) (rs : List Reading) → Stands (run t start rs .state .phase) (run t start rs .state .«gear_box»)
+the-box-by-phase t rs = standing t start rs (omega arith)
 
 -- ---- demand 3
 

@@ -16,7 +16,7 @@ use Rattle.limits.specs.declared.Table.{Table}
 use Rattle.phases.proofs.ByPhaseLaws.{each, de-in}
 use Rattle.shift.specs.declared.State.{State}
 use Rattle.shift.specs.declared.Step.{Step}
-use Rattle.shift.specs.declared.Step.the-variants.{FromNeutral, GearToGear, ToNeutral, Deliver, DeviceGood, DeviceFailed, EngineWaits, Take, AskClutch, RaiseError, Finish, Tick}
+use Rattle.shift.specs.declared.Step.the-variants.{FromNeutral, GearToGear, ToNeutral, Deliver, DeviceGood, DeviceFailed, EngineWaits, Take, AskClutch, RaiseError, Finish, Tick, Reset}
 use Rattle.shift.specs.declared.Reading.{Reading}
 use Rattle.shift.specs.declared.Reading.the-variants.{Means, WrongCode, WrongAmount}
 use Rattle.shift.specs.Steps.{restsIn, shiftsIn, inEngine, inTakeTime, inAskTime, inTickTime, askBound}
@@ -80,7 +80,7 @@ module _ (t : Table) (s : State) (amount : ℕ) where
   untimed : (code : ℕ) → ¬ (code ≡ 8) × ¬ (code ≡ 9) × ¬ (code ≡ 12) → FirstOf (from-9 t s code amount) 0
   untimed code n = inr (λ h. n .1 (h .0), inr (λ h. n .0 (h .0), no-tick code (n .2)))
 
-  -- deliver, device good, device failed, engine waits, raise error and finish: 7
+  -- deliver, device good, device failed, engine waits, raise error, finish and reset: 7
   placed :
       (code : ℕ) (x : Step) → T (only 7 (checks t s (Means x)))
       → (Permitted t s (Means x) ↔ (Listed s × byCode (placings s) code))
@@ -213,6 +213,7 @@ on-state t s AskClutch = ask t s 0
 on-state t s RaiseError = placed t s 0 10 RaiseError tt (λ p. p, λ p. p) (omega arith)
 on-state t s Finish = placed t s 0 11 Finish tt (λ p. p, λ p. p) (omega arith)
 on-state t s (Tick n) = tick t s n
+on-state t s Reset = placed t s 0 13 Reset tt (λ p. p, λ p. p) (omega arith)
 
 -- ---- by what was read
 module _ (t : Table) (s : State) (code middle amount : ℕ) where

@@ -12,7 +12,7 @@ use Rattle.shift.specs.declared.State.{State}
 use Rattle.shift.specs.declared.Reading.{Reading}
 use Rattle.shift.specs.declared.Reading.the-variants.{Means, WrongCode, WrongAmount}
 use Rattle.shift.specs.declared.Step.{Step}
-use Rattle.shift.specs.declared.Step.the-variants.{FromNeutral, GearToGear, ToNeutral, Deliver, DeviceGood, DeviceFailed, EngineWaits, Take, AskClutch, RaiseError, Finish, Tick}
+use Rattle.shift.specs.declared.Step.the-variants.{FromNeutral, GearToGear, ToNeutral, Deliver, DeviceGood, DeviceFailed, EngineWaits, Take, AskClutch, RaiseError, Finish, Tick, Reset}
 use Rattle.shift.specs.declared.Answer.{Answer}
 use Rattle.shift.specs.Answers.{checks, guard, led, answer, judged}
 use Rattle.shift.specs.Runs.{Outcome, after, run}
@@ -31,6 +31,7 @@ numbered-from-5 t s AskClutch = tt
 numbered-from-5 t s RaiseError = tt
 numbered-from-5 t s Finish = tt
 numbered-from-5 t s (Tick n) = tt
+numbered-from-5 t s Reset = tt
 
 -- of an accepted step all checks hold
 pub checked : (t : Table) (s : State) (x : Step) → guard t s (Means x) ≡ 0 → Holds (checks t s (Means x))

@@ -1,6 +1,6 @@
--- Document 01, "The twelve steps", a second time and in its own words: the column "allowed when" as a relation, beside the list of
--- checks that `shift` has. Phases and limits are those of `phases/specs/ByPhase.antt`: with the checks it shares nothing but the
--- fields of a state and of a table.
+-- Document 01, "The twelve steps", and document 02's thirteenth, a second time and in their words: the column "allowed when" as a
+-- relation, beside the list of checks that `shift` has. Phases and limits are those of `phases/specs/ByPhase.antt`: with the checks it
+-- shares nothing but the fields of a state and of a table.
 -- Assumes nothing.
 use mathlib.Core.Path.{_≡_}
 use mathlib.Core.List.{[], _∷_}
@@ -12,7 +12,7 @@ use Rattle.shift.specs.declared.State.{State}
 use Rattle.shift.specs.declared.Reading.{Reading}
 use Rattle.shift.specs.declared.Reading.the-variants.{Means, WrongCode, WrongAmount}
 use Rattle.shift.specs.declared.Step.{Step}
-use Rattle.shift.specs.declared.Step.the-variants.{FromNeutral, GearToGear, ToNeutral, Deliver, DeviceGood, DeviceFailed, EngineWaits, Take, AskClutch, RaiseError, Finish, Tick}
+use Rattle.shift.specs.declared.Step.the-variants.{FromNeutral, GearToGear, ToNeutral, Deliver, DeviceGood, DeviceFailed, EngineWaits, Take, AskClutch, RaiseError, Finish, Tick, Reset}
 
 -- a phase up to 23, a stage up to waiting, the box neutral or in gear
 pub record Listed (s : State) : Type 0 where
@@ -50,6 +50,7 @@ Allowed t s AskClutch =
 Allowed t s RaiseError = Shifting s × (s .stage ≡ 4)
 Allowed t s Finish = s .phase ≡ 22
 Allowed t s (Tick n) = (s .clock + n ≤ 4294967295) × (Shifting s → InTime t s (s .clock + n))
+Allowed t s Reset = s .phase ≡ 23
 
 -- what was read of a record is allowed: it is a step, the state is listed, and the step is allowed in it
 abbrev pub Permitted : Table → State → Reading → Type 0

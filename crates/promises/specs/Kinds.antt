@@ -7,7 +7,7 @@ use Rattle.limits.specs.Limits.{sumF, sumN, sumG1, sumG2}
 use Rattle.shift.specs.declared.State.{State}
 use Rattle.shift.specs.declared.Reading.{Reading}
 use Rattle.shift.specs.declared.Reading.the-variants.{Means, WrongCode, WrongAmount}
-use Rattle.shift.specs.declared.Step.the-variants.{FromNeutral, GearToGear, ToNeutral, Deliver, DeviceGood, DeviceFailed, EngineWaits, Take, AskClutch, RaiseError, Finish, Tick}
+use Rattle.shift.specs.declared.Step.the-variants.{FromNeutral, GearToGear, ToNeutral, Deliver, DeviceGood, DeviceFailed, EngineWaits, Take, AskClutch, RaiseError, Finish, Tick, Reset}
 
 pub data Kind : Type 0 where
   fromNeutral gearToGear toNeutral : Kind
@@ -43,6 +43,7 @@ kindAfter k (Means AskClutch) = k
 kindAfter k (Means RaiseError) = k
 kindAfter k (Means Finish) = k
 kindAfter k (Means (Tick n)) = k
+kindAfter k (Means Reset) = k
 kindAfter k WrongCode = k
 kindAfter k WrongAmount = k
 

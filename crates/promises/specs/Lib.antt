@@ -3,3 +3,4 @@ pub mod Effects
 pub mod Refusals
 pub mod Kinds
 pub mod Verdicts
+pub mod Before

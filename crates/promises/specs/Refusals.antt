@@ -36,6 +36,7 @@ placings s =
     ∷ (Shifting s × (s .stage ≡ 4))  -- 10 raise error
     ∷ (s .phase ≡ 22)  -- 11 finish
     ∷ Unit {0}  -- 12 tick
+    ∷ (s .phase ≡ 23)  -- 13 reset
     ∷ []
 
 abbrev pub byCode : List (Type 0) → ℕ → Type 0

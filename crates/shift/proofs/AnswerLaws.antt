@@ -13,7 +13,7 @@ use Rattle.checks.proofs.Checks.{first→holds}
 use Rattle.limits.specs.declared.Table.{Table}
 use Rattle.shift.specs.declared.State.{State}
 use Rattle.shift.specs.declared.Step.{Step}
-use Rattle.shift.specs.declared.Step.the-variants.{FromNeutral, GearToGear, ToNeutral, Deliver, DeviceGood, DeviceFailed, EngineWaits, Take, AskClutch, RaiseError, Finish, Tick}
+use Rattle.shift.specs.declared.Step.the-variants.{FromNeutral, GearToGear, ToNeutral, Deliver, DeviceGood, DeviceFailed, EngineWaits, Take, AskClutch, RaiseError, Finish, Tick, Reset}
 use Rattle.shift.specs.declared.Reading.{Reading}
 use Rattle.shift.specs.declared.Reading.the-variants.{Means, WrongCode, WrongAmount}
 use Rattle.shift.specs.declared.Answer.{Answer}
@@ -56,3 +56,4 @@ in-clock t s AskClutch e h = h
 in-clock t s RaiseError e h = h
 in-clock t s Finish e h = h
 in-clock t s (Tick n) e h = let a = first→holds 0 (allowed t s (Tick n)) tt e in omega (arith, tests)
+in-clock t s Reset e h = h

@@ -1,5 +1,5 @@
 -- Document 01, "Small table of known runs": K1 to K13, and the statement that the definitions give these answers, the state in all of
--- its fields.
+-- its fields; and the case for which document 02 moved the box and added the reset.
 -- Assumes nothing.
 use mathlib.Core.Path.{_≡_, refl}
 use mathlib.Core.List.{List, [], _∷_, _++_, map}
@@ -78,6 +78,34 @@ runs =
     (state 410 inGear 23 410 none 410 410 19)
     ∷ []
 
+-- the set order was taken in phase 4 and the clutch would not close in phase 5: in gear, in 23 and after the reset, and a request to
+-- neutral is then accepted; one from neutral is not
+abbrev wouldNotClose : List Reading
+wouldNotClose =
+    step 1
+    ∷ step 4
+    ∷ step 7
+    ∷ t 151
+    ∷ step 9
+    ∷ step 4
+    ∷ step 5
+    ∷ step 8
+    ∷ step 4
+    ∷ step 5
+    ∷ step 8
+    ∷ step 4
+    ∷ step 6
+    ∷ step 10
+    ∷ []
+
+abbrev cases : List Known
+cases =
+    known wouldNotClose 14 0 (state 151 inGear 23 151 none 151 0 5)
+    ∷ known (wouldNotClose ++ (t 9 ∷ step 13 ∷ [])) 16 0 (state 160 inGear 0 160 none 160 0 0)
+    ∷ known (wouldNotClose ++ (t 9 ∷ step 13 ∷ step 3 ∷ [])) 17 0 (state 160 inGear 17 160 sent 160 160 0)
+    ∷ known (wouldNotClose ++ (t 9 ∷ step 13 ∷ step 1 ∷ [])) 16 8 (state 160 inGear 0 160 none 160 0 0)
+    ∷ []
+
 -- the default table with another ChangeDL
 abbrev changing : ℕ → Table
 changing n = tableOf (set (entries default) 17 n)
@@ -100,3 +128,6 @@ pub record KnownRuns : Type 0 where
 
 pub known-runs : KnownRuns
 known-runs = record { k1-k11 = refl; k12 = refl; k13 = refl }
+
+pub the-customer's-case : map (λ k. run default start (k .steps)) cases ≡ map (λ k. k .ends) cases
+the-customer's-case = refl

@@ -1,23 +1,23 @@
 -- Laws on listed states: what is left to check in them, and that a step leads from one to another.
 -- Assumes nothing.
 use mathlib.Core.Path.{_≡_, refl, sym, ap, subst, _∙_}
-use mathlib.Core.Bool.{Bool, true, false, cond, _||_}
+use mathlib.Core.Bool.{Bool, true, false, cond}
 use Prim.Native.Nat.{ℕ, zero, suc, _≤_}
 use native.Mathlib.Omega.{arith}
 use lib.Dec.{T, leb, eqb, leb→le, le→leb}
 use Rattle.checks.specs.Checks.{first}
 use Rattle.checks.proofs.Checks.{Holds, first-left, first-right}
 use Rattle.limits.specs.declared.Table.{Table}
-use Rattle.phases.specs.Phases.{unfinished}
+use Rattle.phases.specs.Phases.{set, release, orderOf, unfinished}
 use Rattle.phases.proofs.PhaseLaws.{next-listed, clutch-listed}
 use Rattle.shift.specs.declared.State.{State}
 use Rattle.shift.specs.declared.Step.{Step}
-use Rattle.shift.specs.declared.Step.the-variants.{FromNeutral, GearToGear, ToNeutral, Deliver, DeviceGood, DeviceFailed, EngineWaits, Take, AskClutch, RaiseError, Finish, Tick}
+use Rattle.shift.specs.declared.Step.the-variants.{FromNeutral, GearToGear, ToNeutral, Deliver, DeviceGood, DeviceFailed, EngineWaits, Take, AskClutch, RaiseError, Finish, Tick, Reset}
 use Rattle.shift.specs.declared.Reading.{Reading}
 use Rattle.shift.specs.declared.Reading.the-variants.{Means, WrongCode, WrongAmount}
 use Rattle.shift.specs.declared.Answer.{Answer}
 use Rattle.shift.specs.States.{entered}
-use Rattle.shift.specs.Steps.{allowed, requested, effect}
+use Rattle.shift.specs.Steps.{allowed, requested, boxed, boxTaken, effect}
 use Rattle.shift.specs.Answers.{refusal, listed, checksOf, guard, led, answer, judged}
 
 -- of a listed state nothing is checked but what its step asks
@@ -43,9 +43,14 @@ either-way true x y n h k = h
 either-way false x y n h k = k
 
 enters : (p : ℕ) (s : State) → p ≤ 23 → Holds (listed s) → Holds (listed (entered p s))
-enters p s l h =
-    let side = either-way (eqb (s .phase) 19 || eqb (s .phase) 21) 0 1 1 tt tt in
-    (le→leb p 23 l, (either-way (unfinished p) 1 0 5 tt tt, (either-way (eqb p 22) _ (s .«gear_box») 1 side (h .1 .1 .0), tt)))
+enters p s l h = (le→leb p 23 l, (either-way (unfinished p) 1 0 5 tt tt, h .1 .1))
+
+-- taking an order
+takes : (s : State) → Holds (listed s) → Holds (listed (boxed (boxTaken s) s))
+takes s h =
+    let o = orderOf (s .phase) in
+    let released = either-way (eqb o release) 0 (s .«gear_box») 1 tt (h .1 .1 .0) in
+    (h .0, (h .1 .0, (either-way (eqb o set) 1 _ 1 tt released, tt)))
 
 leads : (s : State) (x : Step) → Holds (listed s) → Holds (listed (effect s x))
 leads s FromNeutral h = enters 1 (requested s) (omega arith) h
@@ -55,13 +60,14 @@ leads s Deliver h = (h .0, (tt, h .1 .1))
 leads s DeviceGood h = (h .0, (tt, h .1 .1))
 leads s DeviceFailed h = (h .0, (tt, h .1 .1))
 leads s EngineWaits h = (h .0, (tt, h .1 .1))
-leads s Take h = enters _ s (next-listed (s .phase) (omega (arith, leb→le (s .phase) 23 (h .0)))) h
+leads s Take h = enters _ (boxed (boxTaken s) s) (next-listed (s .phase) (omega (arith, leb→le (s .phase) 23 (h .0)))) (takes s h)
 leads s AskClutch h = enters _ s (clutch-listed (s .phase) (omega (arith, leb→le (s .phase) 23 (h .0)))) h
 leads s RaiseError h = enters 23 s (omega arith) h
 leads s Finish h = enters 0 s (omega arith) h
 leads s (Tick n) h = h
+leads s Reset h = enters 0 s (omega arith) h
 
-stays-listed : (s : State) (r : Reading) → Holds (listed s) → Holds (listed (led s r))
+pub stays-listed : (s : State) (r : Reading) → Holds (listed s) → Holds (listed (led s r))
 stays-listed s (Means x) h = leads s x h
 stays-listed s WrongCode h = h
 stays-listed s WrongAmount h = h

@@ -10,7 +10,7 @@ use Rattle.limits.specs.declared.Table.{Table}
 use Rattle.limits.specs.Rules.{brokenRule}
 use Rattle.shift.specs.declared.State.{State}
 use Rattle.shift.specs.declared.Step.{Step}
-use Rattle.shift.specs.declared.Step.the-variants.{FromNeutral, GearToGear, ToNeutral, Deliver, DeviceGood, DeviceFailed, EngineWaits, Take, AskClutch, RaiseError, Finish, Tick}
+use Rattle.shift.specs.declared.Step.the-variants.{FromNeutral, GearToGear, ToNeutral, Deliver, DeviceGood, DeviceFailed, EngineWaits, Take, AskClutch, RaiseError, Finish, Tick, Reset}
 use Rattle.shift.specs.declared.Reading.{Reading}
 use Rattle.shift.specs.declared.Reading.the-variants.{Means, WrongCode, WrongAmount}
 use Rattle.shift.specs.declared.Answer.{Answer}
@@ -20,7 +20,7 @@ use Rattle.shift.specs.Steps.{allowed, effect}
 
 -- ---- what a code, a middle byte and an amount mean
 
--- codes 1 to 11: the middle byte and the amount are 0
+-- codes 1 to 11 and 13: the middle byte and the amount are 0
 abbrev pub plain : Step → ℕ → ℕ → Reading
 plain x middle n = cond (eqb middle 0 && eqb n 0) (Means x) WrongAmount
 
@@ -44,6 +44,7 @@ readings middle n =
     ∷ plain RaiseError middle n
     ∷ plain Finish middle n
     ∷ ticking middle n
+    ∷ plain Reset middle n
     ∷ []
 
 abbrev pub reading : ℕ → ℕ → ℕ → Reading

@@ -7,18 +7,18 @@ use mathlib.Core.List.{List, [], _∷_}
 use Prim.Native.Nat.{ℕ, _≤_, _<_}
 use Rattle.checks.specs.Conditions.{Condition, _gives_}
 use Rattle.shift.specs.declared.Step.{Step}
-use Rattle.shift.specs.declared.Step.the-variants.{FromNeutral, GearToGear, ToNeutral, Deliver, DeviceGood, DeviceFailed, EngineWaits, Take, AskClutch, RaiseError, Finish, Tick}
+use Rattle.shift.specs.declared.Step.the-variants.{FromNeutral, GearToGear, ToNeutral, Deliver, DeviceGood, DeviceFailed, EngineWaits, Take, AskClutch, RaiseError, Finish, Tick, Reset}
 use Rattle.shift.specs.declared.Reading.{Reading}
 use Rattle.shift.specs.declared.Reading.the-variants.{Means, WrongCode, WrongAmount}
 
--- 5: code 0 or above 12
+-- 5: code 0 or above 13
 abbrev pub NoCode : ℕ → Type 0
-NoCode code = (code ≡ 0) ⊎ (12 < code)
+NoCode code = (code ≡ 0) ⊎ (13 < code)
 
--- 6: the middle byte is not 0, or the amount is not 0 for codes 1 to 11, not 1 to 65,535 for code 12
+-- 6: the middle byte is not 0, or the amount is not 0 for codes 1 to 11 and 13, not 1 to 65,535 for code 12
 pub record Formed (code middle amount : ℕ) : Type 0 where
   pub middle-byte : middle ≡ 0
-  pub plain : code ≤ 11 → amount ≡ 0
+  pub plain : ¬ (code ≡ 12) → amount ≡ 0
   pub tick : code ≡ 12 → (1 ≤ amount) × (amount ≤ 65535)
 
 abbrev pub Malformed : ℕ → ℕ → ℕ → Type 0
@@ -42,6 +42,7 @@ codeOf AskClutch = 9
 codeOf RaiseError = 10
 codeOf Finish = 11
 codeOf (Tick n) = 12
+codeOf Reset = 13
 
 abbrev pub amountOf : Step → ℕ
 amountOf FromNeutral = 0
@@ -56,6 +57,7 @@ amountOf AskClutch = 0
 amountOf RaiseError = 0
 amountOf Finish = 0
 amountOf (Tick n) = n
+amountOf Reset = 0
 
 -- what a code, a middle byte and an amount mean
 abbrev pub Reads : ℕ → ℕ → ℕ → Reading → Type 0

@@ -1,9 +1,9 @@
 -- Document 01, "State and phases": the box, the stages, the start, and what entering a phase does.
 -- Assumes nothing.
-use mathlib.Core.Bool.{cond, _||_}
+use mathlib.Core.Bool.{cond}
 use Prim.Native.Nat.{ℕ}
 use lib.Dec.{eqb}
-use Rattle.phases.specs.Phases.{atRest, done, error, unfinished}
+use Rattle.phases.specs.Phases.{atRest, error, unfinished}
 use Rattle.shift.specs.declared.State.{State}
 
 -- the box
@@ -45,14 +45,11 @@ start = record {
   «failed_phase» = 0;
 }
 
--- entering 22 makes the box in gear, or neutral from phases 19 and 21
-abbrev pub boxIn : ℕ → State → ℕ
-boxIn p s = cond (eqb p done) (cond (eqb (s .phase) 19 || eqb (s .phase) 21) neutral inGear) (s .«gear_box»)
-
+-- entering a phase leaves the box as it is
 abbrev pub entered : ℕ → State → State
 entered p s = record {
   clock = s .clock;
-  «gear_box» = boxIn p s;
+  «gear_box» = s .«gear_box»;
   phase = p;
   «phase_time» = s .clock;
   stage = cond (unfinished p) sent none;

@@ -1,4 +1,4 @@
--- Document 01, "The twelve steps": when each is allowed, and its effect.
+-- Document 01, "The twelve steps", and document 02's thirteenth: when each is allowed, and its effect.
 -- Assumes nothing.
 use mathlib.Core.Bool.{Bool, cond, _&&_}
 use mathlib.Core.List.{List, [], _∷_, _++_}
@@ -9,8 +9,8 @@ use Rattle.checks.specs.Checks.{Check, _!_}
 use Rattle.limits.specs.declared.Table.{Table}
 use Rattle.shift.specs.declared.State.{State}
 use Rattle.shift.specs.declared.Step.{Step}
-use Rattle.shift.specs.declared.Step.the-variants.{FromNeutral, GearToGear, ToNeutral, Deliver, DeviceGood, DeviceFailed, EngineWaits, Take, AskClutch, RaiseError, Finish, Tick}
-use Rattle.phases.specs.Phases.{zeroTorque, atRest, done, error, orderOf, nextOf, clutchOf, deviceLimit, phaseLimit, latestTake, earliestAsk, unfinished, engine}
+use Rattle.shift.specs.declared.Step.the-variants.{FromNeutral, GearToGear, ToNeutral, Deliver, DeviceGood, DeviceFailed, EngineWaits, Take, AskClutch, RaiseError, Finish, Tick, Reset}
+use Rattle.phases.specs.Phases.{zeroTorque, set, release, atRest, done, error, orderOf, nextOf, clutchOf, deviceLimit, phaseLimit, latestTake, earliestAsk, unfinished, engine}
 use Rattle.shift.specs.States.{neutral, inGear, sent, working, good, failed, waiting, entered}
 
 -- ---- allowed when
@@ -67,9 +67,9 @@ inTickTime t s now =
     ∷ (leb (cond (unfinished (s .phase)) now 0) (phaseBound t s) ! 11)
     ∷ []
 
--- phase 22
-abbrev pub isDone : State → List Check
-isDone s = (eqb (s .phase) done ! 7) ∷ []
+-- in this phase
+abbrev pub standsIn : State → ℕ → List Check
+standsIn s p = (eqb (s .phase) p ! 7) ∷ []
 
 abbrev pub allowed : Table → State → Step → List Check
 allowed t s FromNeutral = restsIn s neutral
@@ -82,8 +82,9 @@ allowed t s EngineWaits = shiftsIn s working ++ inEngine s
 allowed t s Take = shiftsIn s good ++ inTakeTime t s
 allowed t s AskClutch = shiftsIn s waiting ++ (inEngine s ++ inAskTime t s)
 allowed t s RaiseError = shiftsIn s failed
-allowed t s Finish = isDone s
+allowed t s Finish = standsIn s done
 allowed t s (Tick n) = inTickTime t s (s .clock + n)
+allowed t s Reset = standsIn s error
 
 -- ---- effect: what a step doesn't name, it keeps
 
@@ -99,6 +100,24 @@ requested s = record {
   «request_time» = s .clock;
   «failed_phase» = s .«failed_phase»;
 }
+
+-- the box on this side
+abbrev pub boxed : ℕ → State → State
+boxed side s = record {
+  clock = s .clock;
+  «gear_box» = side;
+  phase = s .phase;
+  «phase_time» = s .«phase_time»;
+  stage = s .stage;
+  «stage_time» = s .«stage_time»;
+  «request_time» = s .«request_time»;
+  «failed_phase» = s .«failed_phase»;
+}
+
+-- taking a set order makes the box in gear, taking a release order makes it neutral
+abbrev pub boxTaken : State → ℕ
+boxTaken s =
+    cond (eqb (orderOf (s .phase)) set) inGear (cond (eqb (orderOf (s .phase)) release) neutral (s .«gear_box»))
 
 -- the stage, and stage time = clock
 abbrev pub staged : ℕ → State → State
@@ -134,8 +153,9 @@ effect s Deliver = staged working s
 effect s DeviceGood = staged good s
 effect s DeviceFailed = staged failed s
 effect s EngineWaits = staged waiting s
-effect s Take = entered (nextOf (s .phase)) s
+effect s Take = entered (nextOf (s .phase)) (boxed (boxTaken s) s)
 effect s AskClutch = entered (clutchOf (s .phase)) s
 effect s RaiseError = entered error s
 effect s Finish = entered atRest s
 effect s (Tick n) = ticked n s
+effect s Reset = entered atRest s

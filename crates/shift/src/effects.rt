@@ -2,13 +2,16 @@
 ghost use mathlib.Core.Path.{_≡_};
 ghost use mathlib.Core.Bool.{cond};
 ghost use Prim.Native.Nat.{_+_, _≤_};
-ghost use Rattle.shift.specs.States.{boxIn, entered};
-ghost use Rattle.shift.specs.Steps.{requested, staged, ticked, effect};
+ghost use Rattle.shift.specs.States.{entered};
+ghost use Rattle.shift.specs.Steps.{requested, boxed, boxTaken, staged, ticked, effect};
 use crate::State;
 use crate::Step;
+use phases::RELEASE;
+use phases::SET;
 use phases::clutch_of;
 use phases::is_unfinished;
 use phases::next_of;
+use phases::order_of;
 
 // x where b holds, else y.
 fn pick8(b: bool, x: u8, y: u8) -> u8
@@ -24,18 +27,17 @@ fn pick32(b: bool, x: u32, y: u32) -> u32
 }
 
 impl State {
-    // The state in another phase.
+    // The state in another phase, the box as it is.
     fn enter(self, phase: u8) -> State
         ensures { λ r. ⌜ r ≡ entered phase self ⌝ }
     {
         let now = self.clock;
-        let gear_box = self.box_in(phase);
         let stage = pick8(is_unfinished(phase), 1, 0);
         let request_time = pick32(phase == 0, 0, self.request_time);
         let failed_phase = pick8(phase == 23, self.phase, 0);
         State {
             clock: now,
-            gear_box,
+            gear_box: self.gear_box,
             phase,
             phase_time: now,
             stage,
@@ -43,15 +45,6 @@ impl State {
             request_time,
             failed_phase,
         }
-    }
-
-    // The box on entering a phase: it moves on entering 22 alone.
-    fn box_in(self, phase: u8) -> u8
-        ensures { λ r. ⌜ r ≡ boxIn phase self ⌝ }
-    {
-        let from = self.phase;
-        let side = pick8((from == 19) | (from == 21), 0, 1);
-        pick8(phase == 22, side, self.gear_box)
     }
 
     // Request time = clock.
@@ -68,6 +61,31 @@ impl State {
             request_time: self.clock,
             failed_phase: self.failed_phase,
         }
+    }
+
+    // The box on this side.
+    fn boxed(self, side: u8) -> State
+        ensures { λ r. ⌜ r ≡ boxed side self ⌝ }
+    {
+        State {
+            clock: self.clock,
+            gear_box: side,
+            phase: self.phase,
+            phase_time: self.phase_time,
+            stage: self.stage,
+            stage_time: self.stage_time,
+            request_time: self.request_time,
+            failed_phase: self.failed_phase,
+        }
+    }
+
+    // The box once the phase's order is taken: in gear by a set order, neutral by a release order.
+    fn box_taken(self) -> u8
+        ensures { λ r. ⌜ r ≡ boxTaken self ⌝ }
+    {
+        let order = order_of(self.phase);
+        let released = pick8(order == RELEASE, 0, self.gear_box);
+        pick8(order == SET, 1, released)
     }
 
     // The stage, and stage time = clock.
@@ -117,11 +135,12 @@ impl State {
             Step::DeviceGood => self.staged(3),
             Step::DeviceFailed => self.staged(4),
             Step::EngineWaits => self.staged(5),
-            Step::Take => self.enter(next_of(self.phase)),
+            Step::Take => self.boxed(self.box_taken()).enter(next_of(self.phase)),
             Step::AskClutch => self.enter(clutch_of(self.phase)),
             Step::RaiseError => self.enter(23),
             Step::Finish => self.enter(0),
             Step::Tick(amount) => self.tick(amount),
+            Step::Reset => self.enter(0),
         }
     }
 }

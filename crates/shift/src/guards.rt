@@ -7,7 +7,7 @@ ghost use lib.Dec.{ltb};
 ghost use Rattle.checks.specs.Checks.{first};
 ghost use Rattle.phases.specs.Phases.{unfinished};
 ghost use Rattle.shift.specs.States.{working, good, waiting};
-ghost use Rattle.shift.specs.Steps.{restsIn, shiftsIn, inDevice, inEngine, inTakeTime, inAskTime, inTickTime, isDone, stageBound, phaseBound, limited, allowed};
+ghost use Rattle.shift.specs.Steps.{restsIn, shiftsIn, inDevice, inEngine, inTakeTime, inAskTime, inTickTime, standsIn, stageBound, phaseBound, limited, allowed};
 ghost use Rattle.shift.specs.Answers.{listed};
 use crate::State;
 use crate::Step;
@@ -40,8 +40,9 @@ impl State {
             Step::Take => self.in_take_time(table),
             Step::AskClutch => self.in_ask_time(table),
             Step::RaiseError => self.shifts_in(4),
-            Step::Finish => self.is_done(),
+            Step::Finish => self.stands_in(22),
             Step::Tick(amount) => self.in_tick_time(table, amount),
+            Step::Reset => self.stands_in(23),
         }
     }
 
@@ -150,12 +151,12 @@ impl State {
         0
     }
 
-    // In phase 22.
-    fn is_done(self) -> u8
-        ensures { λ r. ⌜ r ≡ first (isDone self) ⌝ }
+    // In this phase.
+    fn stands_in(self, wanted: u8) -> u8
+        ensures { λ r. ⌜ r ≡ first (standsIn self wanted) ⌝ }
     {
         let phase = self.phase;
-        if phase != 22 {
+        if phase != wanted {
             return 7;
         }
         0

@@ -21,7 +21,7 @@ pub struct State {
     pub failed_phase: u8,
 }
 
-// The twelve steps, in the order of their codes; a tick has its amount.
+// The thirteen steps, in the order of their codes; a tick has its amount.
 pub enum Step {
     FromNeutral,
     GearToGear,
@@ -35,6 +35,7 @@ pub enum Step {
     RaiseError,
     Finish,
     Tick(u32),
+    Reset,
 }
 
 // What a code, a middle byte and an amount mean: a step, or refusal 5, or refusal 6.
@@ -70,6 +71,7 @@ impl Step {
             10 => plain(Step::RaiseError, middle, amount),
             11 => plain(Step::Finish, middle, amount),
             12 => ticking(middle, amount),
+            13 => plain(Step::Reset, middle, amount),
             _ => Reading::WrongCode,
         }
     }
@@ -102,13 +104,13 @@ pub fn refusal_of(code: u8, middle: u8, amount: u32) -> u8
     if code < 1 {
         return 5;
     }
-    if 12 < code {
+    if 13 < code {
         return 5;
     }
     if code == 12 {
         return ticking(middle, amount).refusal();
     }
-    // Codes 1 to 11 are read alike.
+    // The other codes are read alike.
     plain(Step::Finish, middle, amount).refusal()
 }
 

@@ -12,7 +12,7 @@ use Rattle.checks.proofs.Tests.{passes, left}
 use Rattle.shift.specs.declared.Reading.{Reading}
 use Rattle.shift.specs.declared.Reading.the-variants.{Means, WrongCode, WrongAmount}
 use Rattle.shift.specs.declared.Step.{Step}
-use Rattle.shift.specs.declared.Step.the-variants.{FromNeutral, GearToGear, ToNeutral, Deliver, DeviceGood, DeviceFailed, EngineWaits, Take, AskClutch, RaiseError, Finish, Tick}
+use Rattle.shift.specs.declared.Step.the-variants.{FromNeutral, GearToGear, ToNeutral, Deliver, DeviceGood, DeviceFailed, EngineWaits, Take, AskClutch, RaiseError, Finish, Tick, Reset}
 use Rattle.shift.specs.Answers.{reading, plain, ticking, refusal}
 use Rattle.stepfile.specs.Bytes.{bytesOf}
 use Rattle.stepfile.specs.Records.{recordOf, everyFour, recordsIn}
@@ -31,10 +31,11 @@ module _ (b n : ℕ) (x : Step) where
   tested : (q : Bool) (s : Step) → cond (eqb b 0 && q) (Means s) WrongAmount ≡ Means x → b ≡ 0
   tested q s e = eqb→eq b 0 (left (eqb b 0) q (passes (eqb b 0 && q) (chosen (eqb b 0 && q) s e)))
 
-  -- by place in a list of readings that ends with the tick's
-  middle-from : (ss : List Step) (c : ℕ) → getD (map (λ s. plain s b n) ss ++ (ticking b n ∷ [])) c WrongCode ≡ Means x → b ≡ 0
+  -- by place in a list of readings that ends with the tick's and the reset's
+  middle-from : (ss : List Step) (c : ℕ) → getD (map (λ s. plain s b n) ss ++ (ticking b n ∷ plain Reset b n ∷ [])) c WrongCode ≡ Means x → b ≡ 0
   middle-from [] zero e = tested (leb 1 n && leb n 65535) (Tick n) e
-  middle-from [] (suc c) e = no-step e
+  middle-from [] (suc zero) e = tested (eqb n 0) Reset e
+  middle-from [] (suc (suc c)) e = no-step e
   middle-from (s ∷ ss) zero e = tested (eqb n 0) s e
   middle-from (s ∷ ss) (suc c) e = middle-from ss c e
 

@@ -20,17 +20,17 @@ pub right : (k i : ℕ) (w : Wrong) → wrongOr k i w .number ≡ 0 → (k ≡ 0
 right zero i w e = (refl, e)
 right (suc k) i w e = absurd (omega arith)
 
--- a step's code is at most 12
-listed : (c n : ℕ) → refusal (reading c 0 n) ≡ 0 → c < 13
+-- a step's code is at most 13
+listed : (c n : ℕ) → refusal (reading c 0 n) ≡ 0 → c < 14
 listed c n e =
-    elim (decLt c 13) [
+    elim (decLt c 14) [
       | yes h ↦ h
       | no h ↦
           let five : refusal (reading c 0 n) ≡ 5 = ap refusal (past-codes 0 n c (omega arith)) in
           absurd (omega arith)
     ]
 
-same-record : (c n : ℕ) → c < 13 → recordOf (c % 256) (c / 256) (n % 256) (n / 256) ≡ reading c 0 n
+same-record : (c n : ℕ) → c < 14 → recordOf (c % 256) (c / 256) (n % 256) (n / 256) ≡ reading c 0 n
 same-record c n h =
     let low : c % 256 ≡ c = omega arith in
     let high : c / 256 ≡ 0 = omega arith in

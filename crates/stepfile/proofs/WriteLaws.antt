@@ -95,11 +95,11 @@ tick-small n e =
 
 amount-small : (c n : ℕ) → refusal (reading c 0 n) ≡ 0 → n < 65536
 amount-small c n e =
-    elim (decLt c 13) [
+    elim (decLt c 14) [
       | yes h ↦
-          from (λ k. refusal (reading k 0 n) ≡ 0 → n < 65536) 0 13 (
+          from (λ k. refusal (reading k 0 n) ≡ 0 → n < 65536) 0 14 (
             λ q. absurd (omega arith),
-            (plain-small _ n, (plain-small _ n, (plain-small _ n, (plain-small _ n, (plain-small _ n, (plain-small _ n, (plain-small _ n, (plain-small _ n, (plain-small _ n, (plain-small _ n, (plain-small _ n, (tick-small n, tt)))))))))))),
+            (plain-small _ n, (plain-small _ n, (plain-small _ n, (plain-small _ n, (plain-small _ n, (plain-small _ n, (plain-small _ n, (plain-small _ n, (plain-small _ n, (plain-small _ n, (plain-small _ n, (tick-small n, (plain-small _ n, tt))))))))))))),
           ) c zero-le h e
       | no h ↦ let q = rw (List·getD-eq-default (readings 0 n) WrongCode {n = c} (omega arith)) at e in absurd (omega arith)
     ]

@@ -1,10 +1,12 @@
 -- Document 01, "Numbers for what is refused" and "What the contracts have to determine": the files that hold K1, K3, K4, K5 and K6 byte
--- by byte, their verdicts and lines, and the five versions of a judge that are ruled out.
+-- by byte, their verdicts and lines, and the five versions of a judge that are ruled out; and document 02's case of a clutch that
+-- would not close.
 -- Assumes nothing.
 use mathlib.Core.Path.{_≡_, refl, sym, ap, subst, _∙_}
-use mathlib.Core.List.{List, [], _∷_, map}
+use mathlib.Core.List.{List, [], _∷_, _++_, map}
 use Prim.Native.Nat.{ℕ}
 use native.Mathlib.Omega.{arith}
+use lib.ListN.{drop}
 use denote.Ref.{now}
 use Rattle.line.specs.Ascii.{ascii}
 use Rattle.line.specs.Decimals.{decimalOf}
@@ -52,6 +54,17 @@ k5 = headed 5 (1 ∷ 0 ∷ 0 ∷ 0 ∷ 4 ∷ 0 ∷ 0 ∷ 0 ∷ 7 ∷ 0 ∷ 0 ∷
 abbrev pub k6 : List ℕ
 k6 = headed 5 (1 ∷ 0 ∷ 0 ∷ 0 ∷ 4 ∷ 0 ∷ 0 ∷ 0 ∷ 7 ∷ 0 ∷ 0 ∷ 0 ∷ 12 ∷ 0 ∷ 151 ∷ 0 ∷ 9 ∷ 0 ∷ 0 ∷ 0 ∷ [])
 
+-- 1 4 7 t151 9, 4 5 8 4 5 8 4 6 10: the set order is taken in phase 4, and the clutch does not close in phase 5
+abbrev pub would-not-close : List ℕ
+would-not-close =
+    headed 14 (1 ∷ 0 ∷ 0 ∷ 0 ∷ 4 ∷ 0 ∷ 0 ∷ 0 ∷ 7 ∷ 0 ∷ 0 ∷ 0 ∷ 12 ∷ 0 ∷ 151 ∷ 0 ∷ 9 ∷ 0 ∷ 0 ∷ 0
+    ∷ 4 ∷ 0 ∷ 0 ∷ 0 ∷ 5 ∷ 0 ∷ 0 ∷ 0 ∷ 8 ∷ 0 ∷ 0 ∷ 0 ∷ 4 ∷ 0 ∷ 0 ∷ 0 ∷ 5 ∷ 0 ∷ 0 ∷ 0
+    ∷ 8 ∷ 0 ∷ 0 ∷ 0 ∷ 4 ∷ 0 ∷ 0 ∷ 0 ∷ 6 ∷ 0 ∷ 0 ∷ 0 ∷ 10 ∷ 0 ∷ 0 ∷ 0 ∷ [])
+
+-- the same, then t9 13 3: a reset, and a request to neutral
+abbrev pub then-reset : List ℕ
+then-reset = headed 17 (drop 12 would-not-close ++ (12 ∷ 0 ∷ 9 ∷ 0 ∷ 13 ∷ 0 ∷ 0 ∷ 0 ∷ 3 ∷ 0 ∷ 0 ∷ 0 ∷ []))
+
 -- ---- their lines
 pub k1-prints : lineFor k1 ≡ ascii "accepted 12 0 410 0 1\n"
 unfolding lineOf decimalOf tableIn
@@ -60,6 +73,15 @@ k1-prints = refl
 pub k5-prints : lineFor k5 ≡ ascii "refused 4 9 150 1 0\n"
 unfolding lineOf decimalOf tableIn
 k5-prints = refl
+
+-- in gear, in 23 and after the reset
+pub would-not-close-prints : lineFor would-not-close ≡ ascii "accepted 14 0 151 23 1\n"
+unfolding lineOf decimalOf tableIn
+would-not-close-prints = refl
+
+pub then-reset-prints : lineFor then-reset ≡ ascii "accepted 17 0 160 17 1\n"
+unfolding lineOf decimalOf tableIn
+then-reset-prints = refl
 
 -- ---- their verdicts: the number, the index, and the clock and the phase of the state
 abbrev pub told : Verdict → List ℕ
@@ -81,7 +103,7 @@ known-files = refl
 abbrev pub Answered : List ℕ → (Verdict → Type 0) → Type 0
 Answered f P = (κs : _) (a : _) (v : Verdict) (at : _) → judge-reads.Post κs a v at → now (a .0) ≡ f → P v
 
-answered : (f : List ℕ) (P : Verdict → Type 0) → P (verdictOf f) → Answered f P
+pub answered : (f : List ℕ) (P : Verdict → Type 0) → P (verdictOf f) → Answered f P
 answered f P p κs a v at e g = subst P (sym (e ∙ ap verdictOf g)) p
 
 -- a judge that refuses every file: K1 is accepted

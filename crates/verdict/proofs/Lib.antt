@@ -5,3 +5,4 @@ pub mod WrittenFiles
 pub mod Refusals
 pub mod Determined
 pub mod KnownFiles
+pub mod Before

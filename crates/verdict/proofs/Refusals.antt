@@ -21,7 +21,7 @@ use Rattle.promises.proofs.OneStep.{refused-in-the-document's-words}
 use Rattle.shift.specs.declared.State.{State}
 use Rattle.shift.specs.declared.Reading.{Reading}
 use Rattle.shift.specs.declared.Reading.the-variants.{Means, WrongCode, WrongAmount}
-use Rattle.shift.specs.declared.Step.the-variants.{FromNeutral, GearToGear, ToNeutral, Deliver, DeviceGood, DeviceFailed, EngineWaits, Take, AskClutch, RaiseError, Finish, Tick}
+use Rattle.shift.specs.declared.Step.the-variants.{FromNeutral, GearToGear, ToNeutral, Deliver, DeviceGood, DeviceFailed, EngineWaits, Take, AskClutch, RaiseError, Finish, Tick, Reset}
 use Rattle.shift.specs.Answers.{checks, guard}
 use Rattle.stepfile.specs.Files.{tableIn, refusalOf, readingsOf}
 use Rattle.stepfile.specs.Refusals.{bits16, tableBehind, fileRefusals, place}
@@ -50,6 +50,7 @@ guard-numbers t s (Means AskClutch) = between 5 13 (checks t s (Means AskClutch)
 guard-numbers t s (Means RaiseError) = between 5 13 (checks t s (Means RaiseError)) tt
 guard-numbers t s (Means Finish) = between 5 13 (checks t s (Means Finish)) tt
 guard-numbers t s (Means (Tick n)) = between 5 13 (checks t s (Means (Tick n))) tt
+guard-numbers t s (Means Reset) = between 5 13 (checks t s (Means Reset)) tt
 guard-numbers t s WrongCode = between 5 13 (checks t s WrongCode) tt
 guard-numbers t s WrongAmount = between 5 13 (checks t s WrongAmount) tt
 

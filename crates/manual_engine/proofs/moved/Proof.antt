@@ -24,7 +24,8 @@ returns-2 c =
       | inr (inr (inr (inr (inr (inr (inr (inl h))))))) ↦ matched (a .table) (a .v) (h .1 .given .1) (h .2 .ensures) (h .3)
       | inr (inr (inr (inr (inr (inr (inr (inr (inl h)))))))) ↦ matched (a .table) (a .v) (h .1 .given .1) (h .2 .ensures) (h .3)
       | inr (inr (inr (inr (inr (inr (inr (inr (inr (inl h))))))))) ↦ matched (a .table) (a .v) (h .1 .given .1) (h .2 .ensures) (h .3)
-      | inr (inr (inr (inr (inr (inr (inr (inr (inr (inr h))))))))) ↦ matched (a .table) (a .v) (h .1 .given .1) (h .2 .ensures) (h .3)
+      | inr (inr (inr (inr (inr (inr (inr (inr (inr (inr (inl h)))))))))) ↦ matched (a .table) (a .v) (h .1 .given .1) (h .2 .ensures) (h .3)
+      | inr (inr (inr (inr (inr (inr (inr (inr (inr (inr (inr h)))))))))) ↦ matched (a .table) (a .v) (h .1 .given .1) (h .2 .ensures) (h .3)
     ])
 
 pub moved-spec : {M : Type 1} → statement M
@@ -56,5 +57,7 @@ moved-spec =
     (λ c. search needs)
     (λ _ _. tt)
     returns
+    (λ c. search needs)
+    (λ _ _. tt)
     (λ _ _. tt)
     returns-2)

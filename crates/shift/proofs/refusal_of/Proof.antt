@@ -21,7 +21,7 @@ returns-3 c = rw (c .before .before .if3 .taken, c .refusal .ensures, c .before 
 returns-4 : tie.Need-returns-4
 returns-4 c =
     let a = c .before .before .before .before .before .args in
-    c .refusal2 .ensures ∙ ap refusal (c .before .plain .ensures) ∙ alike (a .middle) (a .amount) (a .code) (omega arith) (omega arith)
+    c .refusal2 .ensures ∙ ap refusal (c .before .plain .ensures) ∙ alike (a .middle) (a .amount) (a .code) (omega arith) (omega arith) (omega arith)
 
 pub refusal-of-spec : {M : Type 1} → statement M
 refusal-of-spec =

@@ -10,8 +10,7 @@ returns c =
       c .before .pick32 .ensures,
       c .before .before .pick8 .ensures,
       c .before .before .before .is-unfinished .ensures,
-      c .before .before .before .before .box-in .ensures,
     )
 
 pub enter-spec : {M : Type 1} → statement M
-enter-spec = tie.close (tie.spec (λ _ _. tt) (λ _ _. tt) (λ _ _. tt) (λ _ _. tt) (λ _ _. tt) returns)
+enter-spec = tie.close (tie.spec (λ _ _. tt) (λ _ _. tt) (λ _ _. tt) (λ _ _. tt) returns)
