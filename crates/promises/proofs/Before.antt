@@ -26,7 +26,7 @@ use Rattle.shift.specs.Runs.{Outcome, after, runBy, run}
 use Rattle.shift.proofs.ListedLaws.{left-to-check, stays-listed}
 use Rattle.promises.specs.Before.{ledBefore, WithoutReset, Agree}
 use Rattle.promises.proofs.Runs.{each-step}
-use Rattle.promises.proofs.Boxes.{boxes, Stands, kept-standing}
+use Rattle.promises.proofs.Boxes.{boxes, side, Stands, kept-standing}
 
 -- the old box beside today's: the same at rest and in 22
 record Same (p old box : ℕ) : Type 0 where
@@ -100,19 +100,20 @@ either-way true true old h = tt
 either-way true false old h = tt
 either-way false c old h = h
 
+-- it, on going from the phase p to the phase q
+abbrev moved : ℕ → ℕ → ℕ → ℕ
+moved p q old = cond (eqb q 22 && not (eqb p 22)) (cond (eqb p 19 || eqb p 21) 0 1) old
+
 -- where the phase stays, 22 is not entered
-stays : (b : Bool) (x y : ℕ) → cond (b && not b) x y ≡ y
-stays true x y = refl
-stays false x y = refl
+stays : (p old : ℕ) → moved p p old ≡ old
+stays p old = case (eqb p 22) (λ e. rw e) (λ e. rw e)
 
 -- by the phase table: an order that is taken leads to a phase of the shift or, with the same box, to 22; an ask to a phase of the shift
 no-rest : (p : ℕ) → 1 ≤ p → p < 22 → ¬ (nextOf p ≡ 0)
 no-rest = from _ 1 21 (omega arith)
 
 taken :
-    (old box p : ℕ) → 1 ≤ p → p < 22 → (box ≡ getD boxes p 0) × (nextOf p ≡ 22)
-    → cond (eqb (nextOf p) 22 && not (eqb p 22)) (cond (eqb p 19 || eqb p 21) 0 1) old
-    ≡ cond (eqb (orderOf p) 5) 1 (cond (eqb (orderOf p) 6) 0 box)
+    (old box p : ℕ) → 1 ≤ p → p < 22 → (box ≡ getD boxes p 0) × (nextOf p ≡ 22) → moved p (nextOf p) old ≡ side box p
 taken old box = from _ 1 21 (omega arith)
 
 asked : (p : ℕ) → 1 ≤ p → p < 22 → orderOf p ≤ 2 → ¬ (clutchOf p ≡ 0)
@@ -122,8 +123,8 @@ asked-on : (p : ℕ) → 1 ≤ p → p < 22 → orderOf p ≤ 2 → ¬ (clutchOf
 asked-on = from _ 1 21 (omega arith)
 
 module _ (t : Table) (old : ℕ) (s : State) (b : Beside old s) where
-  unmoved : Same (s .phase) (cond (eqb (s .phase) 22 && not (eqb (s .phase) 22)) (cond (eqb (s .phase) 19 || eqb (s .phase) 21) 0 1) old) (s .«gear_box»)
-  unmoved = rw (stays (eqb (s .phase) 22) (cond (eqb (s .phase) 19 || eqb (s .phase) 21) 0 1) old) (b .same)
+  unmoved : Same (s .phase) (moved (s .phase) (s .phase) old) (s .«gear_box»)
+  unmoved = rw (stays (s .phase) old) (b .same)
 
   kept : (x : Step) → Holds (checks t s (Means x)) → ¬ (Means x ≡ Means Reset) → Same (led s (Means x) .phase) (next old s (Means x)) (led s (Means x) .«gear_box»)
   kept FromNeutral h n = omega arith

@@ -38,10 +38,12 @@ boxes =
 abbrev pub Stands : ℕ → ℕ → Type 0
 Stands p box = 1 ≤ p → p ≤ 21 → box ≡ getD boxes p 0
 
+-- the box once the order of a phase is taken
+abbrev pub side : ℕ → ℕ → ℕ
+side box p = cond (eqb (orderOf p) 5) 1 (cond (eqb (orderOf p) 6) 0 box)
+
 -- ---- by the phase table
-taken :
-    (box p : ℕ) → 1 ≤ p → p < 22 → (box ≡ getD boxes p 0) × (nextOf p ≤ 21)
-    → cond (eqb (orderOf p) 5) 1 (cond (eqb (orderOf p) 6) 0 box) ≡ getD boxes (nextOf p) 0
+taken : (box p : ℕ) → 1 ≤ p → p < 22 → (box ≡ getD boxes p 0) × (nextOf p ≤ 21) → side box p ≡ getD boxes (nextOf p) 0
 taken box = from _ 1 21 (omega arith)
 
 asked : (box p : ℕ) → 1 ≤ p → p < 22 → (orderOf p ≤ 2) × (box ≡ getD boxes p 0) → box ≡ getD boxes (clutchOf p) 0

@@ -27,6 +27,7 @@ use Rattle.shift.specs.Answers.{led}
 use Rattle.shift.proofs.StepLaws.{shifting}
 use Rattle.promises.specs.Allowed.{Shifting, Allowed, Permitted}
 use Rattle.promises.specs.Effects.{Entered, BoxTaken, BoxKept, Staged, Into, Effect, Makes}
+use Rattle.promises.proofs.Boxes.{side}
 
 -- ---- entering a phase, with this request time and this box
 abbrev asked : ℕ → ℕ → State → State
@@ -153,9 +154,6 @@ clutch-begun : (p : ℕ) → OneOf enginePhases p → 1 ≤ clutchOf p
 clutch-begun = each _ enginePhases (omega arith)
 
 -- the box of a take, by the order's phases
-abbrev side : ℕ → ℕ → ℕ
-side box p = cond (eqb (orderOf p) 5) 1 (cond (eqb (orderOf p) 6) 0 box)
-
 takes : (s s′ : State) → Shifting s → s′ .«gear_box» ≡ boxTaken s → BoxTaken s s′
 takes s s′ z e = record {
   in-gear = λ o. e ∙ each (λ p. side (s .«gear_box») p ≡ 1) setPhases (refl, (refl, (refl, (refl, (refl, tt))))) (s .phase) o;

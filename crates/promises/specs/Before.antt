@@ -1,5 +1,5 @@
--- The rules before request 2, for one statement alone, `old-and-new-agree` of proofs/Before.antt: nothing else uses this file. Before it,
--- entering 22 made the box in gear, or neutral from phases 19 and 21, and nothing else moved it; reset was no step.
+-- The rules before request 2, for the statement alone that old and new agree. Then, entering 22 made the box in gear, or neutral from
+-- phases 19 and 21, and nothing else moved it; reset was no step.
 -- Assumes nothing.
 use mathlib.Core.Bool.{cond, not, _&&_, _||_}
 use mathlib.Core.Path.{_≡_}
@@ -15,7 +15,7 @@ use Rattle.shift.specs.Steps.{boxed}
 use Rattle.shift.specs.Answers.{led}
 use Rattle.shift.specs.Runs.{Outcome}
 
--- the state that a step led to: today's, but for the box. The run of before is `runBy ledBefore`
+-- the state that a step led to: today's, but for the box; so the run of then is `runBy ledBefore`
 abbrev pub ledBefore : State → Reading → State
 ledBefore s r =
     let enters22 = eqb (led s r .phase) done && not (eqb (s .phase) done) in

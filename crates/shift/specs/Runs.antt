@@ -19,11 +19,11 @@ abbrev pub after : ℕ → State → Outcome → Outcome
 after zero s rest = record { count = suc (rest .count); number = rest .number; state = rest .state }
 after (suc k) s rest = record { count = 0; number = suc k; state = s }
 
--- from any state, under an admitted table; what a list holds is what was read of each record, and leads to a state by this rule
+-- from any state, under an admitted table, each step leading on by the rule `to`; what a list holds is what was read of each record
 abbrev pub runBy : (State → Reading → State) → Table → State → List Reading → Outcome
 runBy to t s [] = record { count = 0; number = 0; state = s }
 runBy to t s (r ∷ rs) = let rest = runBy to t (to s r) rs in after (guard t s r) s rest
 
--- by the document's
+-- by the document's effects
 abbrev pub run : Table → State → List Reading → Outcome
 run = runBy led

@@ -192,11 +192,11 @@ impl State {
         if 21 < phase {
             return false;
         }
-        if (stage == 1) | (stage == 3) {
-            return passes(now, self.stage_time, table.channel_dl);
-        }
         if stage == 2 {
             return passes(now, self.stage_time, device_limit(table, order_of(phase)));
+        }
+        if (stage == 1) | (stage == 3) {
+            return passes(now, self.stage_time, table.channel_dl);
         }
         false
     }

@@ -57,6 +57,11 @@ impl Step {
     pub fn of(code: u8, middle: u8, amount: u32) -> Reading
         ensures { λ r. ⌜ r ≡ reading code middle amount ⌝ }
     {
+        // Most records are ticks: one with a good middle byte is asked for first.
+        let head = code as u32 + 256 * (middle as u32);
+        if head == 12 {
+            return ticking(0, amount);
+        }
         match code {
             0 => Reading::WrongCode,
             1 => plain(Step::FromNeutral, middle, amount),
@@ -70,7 +75,7 @@ impl Step {
             9 => plain(Step::AskClutch, middle, amount),
             10 => plain(Step::RaiseError, middle, amount),
             11 => plain(Step::Finish, middle, amount),
-            12 => ticking(middle, amount),
+            12 => Reading::WrongAmount, // the middle byte is not 0
             13 => plain(Step::Reset, middle, amount),
             _ => Reading::WrongCode,
         }

@@ -9,31 +9,31 @@ use Rattle.shift.proofs.State.passes_stage.Tie as tie
 
 returns-3 : tie.Need-returns-3
 returns-3 c =
-    let a = c .before .before .before .before .args in
-    let device = deviceLimit (a .table) (orderOf (a .self .phase)) in
-    let on = on-channel (a .self .stage) (c .before .if3 .taken) in
+    let a = c .before .before .before .before .before .before .args in
     rw (
-      limits (a .self) (a .now) (c .before .before .before .if1 .left) (c .before .before .if2 .left) (on .0) (on .1),
-      by-channel (a .table .«channel_dl») device (a .self .stage) (on .0) (omega arith) (on .2),
+      limits (a .self) (a .now) (c .before .before .before .before .before .if1 .left) (c .before .before .before .before .if2 .left) (omega arith) (omega arith),
+      c .before .before .before .if3 .taken,
       c .passes .ensures,
+      c .before .device-limit .ensures,
+      c .before .before .order-of .ensures,
     )
 
 returns-4 : tie.Need-returns-4
 returns-4 c =
-    let a = c .before .before .before .before .before .before .before .args in
+    let a = c .before .before .before .before .before .args in
+    let device = deviceLimit (a .table) (orderOf (a .self .phase)) in
+    let on = on-channel (a .self .stage) (c .before .if4 .taken) in
     rw (
-      limits (a .self) (a .now) (c .before .before .before .before .before .before .if1 .left) (c .before .before .before .before .before .if2 .left) (omega arith) (omega arith),
-      c .before .before .before .if4 .taken,
+      limits (a .self) (a .now) (c .before .before .before .before .if1 .left) (c .before .before .before .if2 .left) (on .0) (on .1),
+      by-channel (a .table .«channel_dl») device (a .self .stage) (on .0) (omega arith) (on .2),
       c .passes2 .ensures,
-      c .before .device-limit .ensures,
-      c .before .before .order-of .ensures,
     )
 
 returns-5 : tie.Need-returns-5
 returns-5 c =
     let a = c .before .before .before .before .args in
-    let off = off-channel (a .self .stage) (c .before .if3 .left) in
-    rw (idle-free (a .self) (a .now) (c .before .before .before .if1 .left) (c .before .before .if2 .left) off (c .if4 .left)) (free (stageBound (a .table) (a .self)))
+    let off = off-channel (a .self .stage) (c .if4 .left) in
+    rw (idle-free (a .self) (a .now) (c .before .before .before .if1 .left) (c .before .before .if2 .left) off (c .before .if3 .left)) (free (stageBound (a .table) (a .self)))
 
 pub passes-stage-spec : {M : Type 1} → statement M
 passes-stage-spec =
@@ -42,9 +42,9 @@ passes-stage-spec =
     (λ c. let a = c .before .args in rw (resting-free (a .self) (a .now) (c .if1 .taken)) (free (stageBound (a .table) (a .self))))
     (λ c. let a = c .before .before .args in rw (ended-free (a .self) (a .now) (c .if2 .taken)) (free (stageBound (a .table) (a .self))))
     (λ _ _. tt)
+    (λ _ _. tt)
+    (λ _ _. tt)
     returns-3
-    (λ _ _. tt)
-    (λ _ _. tt)
     (λ _ _. tt)
     returns-4
     returns-5)
