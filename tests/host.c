@@ -543,8 +543,9 @@ static void refuses(const char *name, munasirel_state from, unsigned code, unsig
     advances(name, normal, from, code, 0, amount, want, from);
 }
 
-/* The steps one after the other, with the phase after each. */
-static void walks(const char *name, munasirel_state from, const char *text, const uint8_t *phases, munasirel_state to)
+/* The steps one after the other, with the phase and the box after each. */
+static void walks(const char *name, munasirel_state from, const char *text, const uint8_t *phases, const char *boxes,
+                  munasirel_state to)
 {
     fresh();
     munasirel_state *state = lend(&from, sizeof from);
@@ -552,26 +553,10 @@ static void walks(const char *name, munasirel_state from, const char *text, cons
     list(text);
     for (size_t i = 0; i < steps; i++) {
         good &= munasirel_advance(state, normal, codes[i], 0, (uint8_t)(amounts[i] % 256), (uint8_t)(amounts[i] / 256)) == 0;
-        good &= state->phase == phases[i];
+        good &= state->phase == phases[i] && state->gear_box == boxes[i] - '0';
     }
-    check("advance", name, "numbers or phases", good);
+    check("advance", name, "numbers, phases or boxes", good && strlen(boxes) == steps);
     check("advance", name, "end", same_state(state, &to));
-    check("advance", name, "bytes", guarded());
-}
-
-/* The steps one after the other, with the box after each. */
-static void shows(const char *name, const char *text, const char *boxes)
-{
-    munasirel_state start = S(0);
-    fresh();
-    munasirel_state *state = lend(&start, sizeof start);
-    int good = 1;
-    list(text);
-    for (size_t i = 0; i < steps; i++) {
-        good &= munasirel_advance(state, normal, codes[i], 0, (uint8_t)(amounts[i] % 256), (uint8_t)(amounts[i] / 256)) == 0;
-        good &= state->gear_box == boxes[i] - '0';
-    }
-    check("advance", name, "boxes", good && strlen(boxes) == steps);
     check("advance", name, "bytes", guarded());
 }
 
@@ -603,23 +588,26 @@ static void advancing_runs(void)
 
     munasirel_state in_gear = S(10, 1, 0, 10, 0, 10, 0, 0);
     walks("from neutral, by the clutch", S(0), "1 4 7 t151 9 4 5 8 4 5 8 4 5 8 11",
-          (const uint8_t[]){1, 1, 1, 1, 2, 2, 2, 4, 4, 4, 5, 5, 5, 22, 0}, S(151, 1, 0, 151, 0, 151, 0, 0));
+          (const uint8_t[]){1, 1, 1, 1, 2, 2, 2, 4, 4, 4, 5, 5, 5, 22, 0}, "000000000011111", S(151, 1, 0, 151, 0, 151, 0, 0));
+    walks("from neutral, a clutch that would not close, a reset", S(0), WOULD_NOT_CLOSE " 13 3",
+          (const uint8_t[]){1, 1, 1, 1, 2, 2, 2, 4, 4, 4, 5, 5, 5, 23, 0, 17}, "0000000000111111",
+          S(151, 1, 17, 151, 1, 151, 151, 0));
     walks("gear to gear", in_gear, "2 4 5 8 4 5 8 4 5 8 4 5 8",
-          (const uint8_t[]){6, 6, 6, 8, 8, 8, 10, 10, 10, 12, 12, 12, 22}, S(10, 1, 22, 10, 0, 10, 10, 0));
+          (const uint8_t[]){6, 6, 6, 8, 8, 8, 10, 10, 10, 12, 12, 12, 22}, "1111110000001", S(10, 1, 22, 10, 0, 10, 10, 0));
     walks("gear to gear, by the clutch", in_gear, "2 4 7 t251 9 4 5 8 4 5 8 4 5 8 4 5 8",
-          (const uint8_t[]){6, 6, 6, 6, 7, 7, 7, 9, 9, 9, 14, 14, 14, 16, 16, 16, 22}, S(261, 1, 22, 261, 0, 261, 10, 0));
+          (const uint8_t[]){6, 6, 6, 6, 7, 7, 7, 9, 9, 9, 14, 14, 14, 16, 16, 16, 22}, "11111111110001111",
+          S(261, 1, 22, 261, 0, 261, 10, 0));
     walks("gear to gear, by the clutch later", in_gear, "2 4 5 8 4 5 8 4 7 t151 9 4 5 8 4 5 8 4 6 10",
-          (const uint8_t[]){6, 6, 6, 8, 8, 8, 10, 10, 10, 10, 11, 11, 11, 13, 13, 13, 15, 15, 15, 23},
+          (const uint8_t[]){6, 6, 6, 8, 8, 8, 10, 10, 10, 10, 11, 11, 11, 13, 13, 13, 15, 15, 15, 23}, "11111100000000001111",
           S(161, 1, 23, 161, 0, 161, 10, 15));
-    shows("the box, gear to gear", "1 4 5 8 4 5 8 11 2 4 5 8 4 5 8 4 5 8 4 5 8 11", "0000001111111100000011");
-    shows("the box, gear to gear by the clutch", "1 4 5 8 4 5 8 11 2 4 7 t251 9 4 5 8 4 5 8 4 5 8 4 5 8 11",
-          "00000011111111111100011111");
-    shows("the box, to neutral by the clutch, into an error", "1 4 5 8 4 5 8 11 3 4 7 t251 9 4 5 8 4 5 8 4 6 10 13 1",
-          "000000111111111111000000");
-    shows("the box of a clutch that would not close", WOULD_NOT_CLOSE " 13 3", "0000000000111111");
-    walks("to neutral", in_gear, "3 4 5 8 4 5 8", (const uint8_t[]){17, 17, 17, 19, 19, 19, 22}, S(10, 0, 22, 10, 0, 10, 10, 0));
+    walks("to neutral", in_gear, "3 4 5 8 4 5 8", (const uint8_t[]){17, 17, 17, 19, 19, 19, 22}, "1111110",
+          S(10, 0, 22, 10, 0, 10, 10, 0));
     walks("to neutral, by the clutch", in_gear, "3 4 7 t251 9 4 5 8 4 5 8 4 5 8 11",
-          (const uint8_t[]){17, 17, 17, 17, 18, 18, 18, 20, 20, 20, 21, 21, 21, 22, 0}, S(261, 0, 0, 261, 0, 261, 0, 0));
+          (const uint8_t[]){17, 17, 17, 17, 18, 18, 18, 20, 20, 20, 21, 21, 21, 22, 0}, "111111111100000",
+          S(261, 0, 0, 261, 0, 261, 0, 0));
+    walks("to neutral, a clutch that would not close, a reset", in_gear, "3 4 7 t251 9 4 5 8 4 5 8 4 6 10 13 1",
+          (const uint8_t[]){17, 17, 17, 17, 18, 18, 18, 20, 20, 20, 21, 21, 21, 23, 0, 1}, "1111111111000000",
+          S(261, 0, 1, 261, 1, 261, 261, 0));
 }
 
 static int sets(uint8_t phase)

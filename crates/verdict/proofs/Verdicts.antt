@@ -7,7 +7,8 @@ use Prim.Native.Nat.{ℕ, _≤_}
 use Rattle.limits.specs.Tighter.{NowhereTighter}
 use Rattle.promises.specs.Kinds.{Kind, lastKind, NotOlder}
 use Rattle.promises.specs.Verdicts.{Exact}
-use Rattle.promises.proofs.Promises.{accepted-up-to-the-first-forbidden-step, accepted-by-a-looser-table-from-any-state, unfinished-shifts-are-no-older-than-their-sum}
+use Rattle.promises.proofs.Boxes.{Stands}
+use Rattle.promises.proofs.Promises.{accepted-up-to-the-first-forbidden-step, the-box-by-phase, accepted-by-a-looser-table-from-any-state, unfinished-shifts-are-no-older-than-their-sum}
 use Rattle.shift.specs.States.{start}
 use Rattle.shift.specs.declared.Reading.{Reading}
 use Rattle.shift.specs.Runs.{Outcome, run}
@@ -37,6 +38,11 @@ module _ (f : List ℕ) where
   -- an accepted file: the index is the record count of its header
   pub accepted-files : refusalOf f .number ≡ 0 → verdictOf f .number ≡ 0 → verdictOf f .index ≡ recordCount f
   accepted-files z a = read-files z .accepted a ∙ as-many-records f z
+
+  -- after a file, accepted or refused, the box stands by the phase
+  pub the-box-after-a-file : refusalOf f .number ≡ 0 → Stands (verdictOf f .state .phase) (verdictOf f .state .«gear_box»)
+  the-box-after-a-file z =
+      subst (λ (v : Verdict). Stands (v .state .phase) (v .state .«gear_box»)) (read-verdict f z) (the-box-by-phase (tableIn f) (readingsOf f))
 
   -- in an accepted file, after any of its records, an unfinished shift is no older than the sum of its kind, and that sum is at most
   -- the ChangeDL of the file's table
