@@ -1,14 +1,18 @@
--- Demand 1 of the running judge, as a theorem over what the contract of `munasirel_advance` allows: `Advanced`, which `claimed` shows
--- to be the contract's own.
+-- Demand 1 of the running judge, and that an error is final until a reset, as theorems over what the contract of `munasirel_advance`
+-- allows: `Advanced`, which `claimed` shows to be the contract's own.
 -- Assumes nothing.
-use Prim.Native.Nat.{ℕ, _+_, _*_}
+use mathlib.Core.Path.{_≡_}
+use Prim.Native.Nat.{ℕ, _+_, _*_, _≤_}
 use contract.Lifetimes.{Lfts}
 use denote.Ref.{now}
 use denote.Triple.Entry.{Args}
 use denote.Triple.Clauses.{AtExit}
 use Rattle.limits.specs.declared.Table.{Table}
+use Rattle.limits.specs.Refusals.{Admitted}
 use Rattle.shift.specs.declared.State.{State}
+use Rattle.shift.specs.Refusals.{Formed}
 use Rattle.promises.specs.Refusals.{Answered}
+use Rattle.promises.proofs.Errors.{an-error-is-final-until-a-reset}
 use Rattle.gateway.proofs.Answers.{a-record}
 use Rattle.munasirel.proofs.munasirel_advance as advance
 use Rattle.munasirel.proofs.Determined.{Advanced}
@@ -39,3 +43,9 @@ module _
   pub the-running-judge-answers-in-the-document's-words : Answered table state code middle amount number state-after
   the-running-judge-answers-in-the-document's-words =
       rw (call .0, call .1) (a-record table state code middle (given .1 .1 .1 .1 .0) (given .1 .1 .1 .1 .1 .0))
+
+  -- after an error every record but a tick and the reset is refused with 7
+  pub the-running-judge-after-an-error :
+      state .phase ≡ 23 → Admitted table → Formed code middle amount → 1 ≤ code → code ≤ 11 → (number ≡ 7) × (state-after ≡ state)
+  the-running-judge-after-an-error e =
+      an-error-is-final-until-a-reset table state code middle amount e number state-after the-running-judge-answers-in-the-document's-words

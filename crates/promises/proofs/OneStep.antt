@@ -3,21 +3,23 @@
 -- Assumes nothing.
 use mathlib.Core.Path.{_≡_, sym, subst, _∙_}
 use mathlib.Core.List.{[], _∷_}
-use Prim.Native.Nat.{ℕ}
+use Prim.Native.Nat.{ℕ, _≤_}
 use contract.Lifetimes.{Lfts}
 use denote.Triple.Entry.{Args}
 use denote.Triple.Clauses.{AtExit}
 use Rattle.checks.specs.Conditions.{FirstOf, OneOf}
 use Rattle.checks.proofs.ConditionLaws.{one-of}
 use Rattle.limits.specs.declared.Table.{Table}
-use Rattle.limits.specs.Refusals.{broken}
+use Rattle.limits.specs.Refusals.{Admitted, broken}
 use Rattle.shift.specs.declared.State.{State}
 use Rattle.shift.specs.declared.Answer.{Answer}
 use Rattle.shift.specs.Answers.{reading, guard}
+use Rattle.shift.specs.Refusals.{Formed}
 use Rattle.shift.proofs.State.step as step-call
 use Rattle.shift.proofs.State.step.Reads as step-reads
 use Rattle.promises.specs.Refusals.{recordRefusals, refusals, Answered}
 use Rattle.promises.proofs.RefusalLaws.{first-refusal}
+use Rattle.promises.proofs.Errors.{an-error-is-final-until-a-reset}
 use Rattle.promises.proofs.AnswerLaws.{answered, with-its-rule, the-one, of-a-tick, of-another-step}
 
 -- the number of a record, where the table has been tested: the first whose condition holds, and 0 where none does
@@ -50,6 +52,12 @@ module _
   pub a-step-names-the-first-broken-rule : FirstOf (broken table) (a .rule)
   a-step-names-the-first-broken-rule =
       subst (λ (q : Answer). FirstOf (broken table) (q .rule)) (sym call) (with-its-rule table state code 0 amount)
+
+  -- after an error every step but a tick and the reset is refused with 7
+  pub a-step-after-an-error :
+      state .phase ≡ 23 → Admitted table → Formed code 0 amount → 1 ≤ code → code ≤ 11 → (a .number ≡ 7) × (a .state ≡ state)
+  a-step-after-an-error e =
+      an-error-is-final-until-a-reset table state code 0 amount e (a .number) (a .state) a-step-is-answered-in-the-document's-words
 
 -- ---- whatever is answered so
 module _ (t : Table) (s : State) (code middle amount : ℕ) where
