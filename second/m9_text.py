@@ -6,7 +6,7 @@ import m9
 from m9 import BOOLS, EVENTS, LIMITS, NATURALS, START, bound_of, deadline_of
 from program import ROOT
 from rules import (
-    LAST_CLOCK, NOT_ALLOWED, PAST_CLOCK, PAST_PHASE_LIMIT, PAST_STAGE_LIMIT, TOO_EARLY, TOO_LATE, WRONG_BOX, Table,
+    LAST_CLOCK, NOT_ALLOWED, PAST_CLOCK, TOO_EARLY, TOO_LATE, WRONG_BOX, Table,
 )
 from settlements import REQUESTED
 

@@ -9,6 +9,7 @@ use lib.Dec.{T, eqb, eqb→eq}
 use borrow.Author.Tests.{eqb-true, eqb-false}
 use Rattle.checks.specs.Conditions.{OneOf}
 use Rattle.checks.proofs.Tests.{case, either}
+use Rattle.checks.specs.Ranges.{From}
 use Rattle.checks.proofs.Ranges.{from}
 use Rattle.limits.specs.declared.Table.{Table}
 use Rattle.phases.specs.Phases.{orderOf, nextOf, clutchOf, deviceLimit, phaseLimit, latestTake, earliestAsk, engine}
@@ -63,15 +64,13 @@ engine-in p l m h = found enginePhases p (in-list p l m h)
 pub engine-of : (p : ℕ) → OneOf enginePhases p → T (engine p) × (1 ≤ p) × (p ≤ 21)
 engine-of = each _ enginePhases (omega arith)
 
--- an order that is a set order, and one that is a release order
-set-list : (p : ℕ) → 1 ≤ p → p < 22 → orderOf p ≡ 5 → T (has setPhases p)
-set-list = from _ 1 21 (omega arith)
+-- the phases of an order, by the order's number
+of-order :
+    (ps : List ℕ) (o : ℕ) → From (λ k. orderOf k ≡ o → T (has ps k)) 1 21 → (p : ℕ) → 1 ≤ p → p < 22 → orderOf p ≡ o → OneOf ps p
+of-order ps o each p l m h = found ps p (from (λ k. orderOf k ≡ o → T (has ps k)) 1 21 each p l m h)
 
 pub set-in : (p : ℕ) → 1 ≤ p → p < 22 → orderOf p ≡ 5 → OneOf setPhases p
-set-in p l m h = found setPhases p (set-list p l m h)
-
-release-list : (p : ℕ) → 1 ≤ p → p < 22 → orderOf p ≡ 6 → T (has releasePhases p)
-release-list = from _ 1 21 (omega arith)
+set-in = of-order setPhases 5 (omega arith)
 
 pub release-in : (p : ℕ) → 1 ≤ p → p < 22 → orderOf p ≡ 6 → OneOf releasePhases p
-release-in p l m h = found releasePhases p (release-list p l m h)
+release-in = of-order releasePhases 6 (omega arith)
