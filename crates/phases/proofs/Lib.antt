@@ -1,3 +1,4 @@
 pub mod PhaseLaws
 pub mod ByPhaseLaws
+pub mod CaseLaws
 pub mod Determined

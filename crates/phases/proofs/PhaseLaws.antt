@@ -1,27 +1,15 @@
 -- Laws on the phase table and the limits by order.
 -- Assumes nothing.
-use mathlib.Core.Path.{_≡_, refl, sym, ap}
-use mathlib.Core.List.{List, [], _∷_, map}
-use Prim.Native.Nat.{ℕ, zero, suc, _≤_, _<_}
+use mathlib.Core.Path.{_≡_}
+use mathlib.Core.List.{List}
+use Prim.Native.Nat.{ℕ, _≤_, _<_}
 use native.Mathlib.Omega.{arith}
 use lib.Dec.{T, leb, leb→le}
-use lib.ListN.{length, getD, List·getD-eq-default}
+use lib.ListN.{length, List·getD-eq-default}
 use Rattle.limits.specs.declared.Table.{Table}
 use Rattle.checks.proofs.Tests.{left, right}
 use Rattle.checks.proofs.Ranges.{below, from}
-use Rattle.phases.specs.Phases.{Row, row, rows, rowOf, orderOf, nextOf, clutchOf, unfinished, limitBy}
-
--- a column of the phase table, within it and past its end
-map-at : (f : Row → ℕ) (rs : List Row) (p : ℕ) (d : Row) → getD (map f rs) p (f d) ≡ f (getD rs p d)
-map-at f [] p d = refl
-map-at f (r ∷ rs) zero d = refl
-map-at f (r ∷ rs) (suc p) d = map-at f rs p d
-
-pub column : (f : Row → ℕ) (p : ℕ) → getD (map f rows) p (f (row 0 0 0)) ≡ f (rowOf p)
-column f p = map-at f rows p (row 0 0 0)
-
-pub past : (f : Row → ℕ) (p : ℕ) → 24 ≤ p → f (row 0 0 0) ≡ f (rowOf p)
-past f p h = ap f (sym (List·getD-eq-default rows (row 0 0 0) {n = p} h))
+use Rattle.phases.specs.Phases.{orderOf, nextOf, clutchOf, unfinished, limitBy}
 
 -- past the last order there is no entry
 pub no-limit : (numbers : List ℕ) (t : Table) (o : ℕ) → length numbers ≤ o → 0 ≡ limitBy numbers t o

@@ -16,113 +16,99 @@ pub const SET: u8 = 5;
 
 pub const RELEASE: u8 = 6;
 
-// The next phase when taken, by phase; 0 where there is none.
-const NEXT: [u8; 24] = [
-    0, // 0 at rest
-    3, // 1 (from neutral)
-    4, // 2
-    22, // 3
-    5, // 4
-    22, // 5
-    8, // 6 (gear to gear)
-    9, // 7
-    10, // 8
-    14, // 9
-    12, // 10
-    13, // 11
-    22, // 12
-    15, // 13
-    16, // 14
-    22, // 15
-    22, // 16
-    19, // 17 (to neutral)
-    20, // 18
-    22, // 19
-    21, // 20
-    22, // 21
-    0, // 22 done
-    0, // 23 error
-];
+// The three choices below are columns of the wall sheet, docs/PHASES.md, case by case and in its order. What is empty there is 0
+// here. A comment behind a case is what the sheet has in its first column besides the number.
 
-// The phase after asking for the clutch, by phase; 0 where there is none.
-const CLUTCH: [u8; 24] = [
-    0, // 0 at rest
-    2, // 1 (from neutral)
-    0, // 2
-    0, // 3
-    0, // 4
-    0, // 5
-    7, // 6 (gear to gear)
-    0, // 7
-    0, // 8
-    0, // 9
-    11, // 10
-    0, // 11
-    0, // 12
-    0, // 13
-    0, // 14
-    0, // 15
-    0, // 16
-    18, // 17 (to neutral)
-    0, // 18
-    0, // 19
-    0, // 20
-    0, // 21
-    0, // 22 done
-    0, // 23 error
-];
+// The order of a phase.
+pub fn order_of(phase: u8) -> u8
+    ensures { λ r. ⌜ r ≡ orderOf phase ⌝ }
+{
+    match phase {
+        0..=0 => 0, // at rest
+        1..=21 => match phase {
+            1 => SYNC, // (from neutral)
+            2 => OPEN,
+            3 => SET,
+            4 => SET,
+            5 => CLOSE,
+            6 => ZERO_TORQUE, // (gear to gear)
+            7 => OPEN,
+            8 => RELEASE,
+            9 => RELEASE,
+            10 => SYNC,
+            11 => OPEN,
+            12 => SET,
+            13 => SET, // 13 / 14
+            14 => SET, // 13 / 14
+            15 => CLOSE, // 15, 16
+            16 => CLOSE, // 15, 16
+            17 => ZERO_TORQUE, // (to neutral)
+            18 => OPEN,
+            19 => RELEASE,
+            20 => RELEASE,
+            21 => CLOSE,
+            _ => 0,
+        },
+        22..=23 => 0, // done, error
+        _ => 0,
+    }
+}
 
-// The next phase when a phase's order is taken.
+// The next phase when a phase's order is taken. The working phases stand by kinds of shift: no path leads from one to another.
 pub fn next_of(phase: u8) -> u8
     ensures { λ r. ⌜ r ≡ nextOf phase ⌝ }
 {
-    let i = phase as usize;
-    if i < 24 {
-        return NEXT[i];
+    match phase {
+        0..=0 => 0, // at rest
+        1..=5 => match phase {
+            1 => 3, // (from neutral)
+            2 => 4,
+            3 => 22,
+            4 => 5,
+            5 => 22,
+            _ => 0,
+        },
+        6..=16 => match phase {
+            6 => 8, // (gear to gear)
+            7 => 9,
+            8 => 10,
+            9 => 14,
+            10 => 12,
+            11 => 13,
+            12 => 22,
+            13 => 15, // 13 / 14
+            14 => 16, // 13 / 14
+            15 => 22, // 15, 16
+            16 => 22, // 15, 16
+            _ => 0,
+        },
+        17..=21 => match phase {
+            17 => 19, // (to neutral)
+            18 => 20,
+            19 => 22,
+            20 => 21,
+            21 => 22,
+            _ => 0,
+        },
+        22..=23 => 0, // done, error
+        _ => 0,
     }
-    0
 }
 
 // The phase after asking for the clutch.
 pub fn clutch_of(phase: u8) -> u8
     ensures { λ r. ⌜ r ≡ clutchOf phase ⌝ }
 {
-    let i = phase as usize;
-    if i < 24 {
-        return CLUTCH[i];
-    }
-    0
-}
-
-// The order of a phase, 0 where it has none.
-pub fn order_of(phase: u8) -> u8
-    ensures { λ r. ⌜ r ≡ orderOf phase ⌝ }
-{
     match phase {
-        0 => 0,
-        1 => SYNC,
-        2 => OPEN,
-        3 => SET,
-        4 => SET,
-        5 => CLOSE,
-        6 => ZERO_TORQUE,
-        7 => OPEN,
-        8 => RELEASE,
-        9 => RELEASE,
-        10 => SYNC,
-        11 => OPEN,
-        12 => SET,
-        13 => SET,
-        14 => SET,
-        15 => CLOSE,
-        16 => CLOSE,
-        17 => ZERO_TORQUE,
-        18 => OPEN,
-        19 => RELEASE,
-        20 => RELEASE,
-        21 => CLOSE,
-        22 => 0,
-        23 => 0,
+        0..=0 => 0, // at rest
+        1..=21 => match phase {
+            1 => 2, // (from neutral)
+            6 => 7, // (gear to gear)
+            10 => 11,
+            17 => 18, // (to neutral)
+            _ => 0,
+        },
+        22..=23 => 0, // done, error
         _ => 0,
     }
 }

@@ -1,7 +1,10 @@
--- `clutch_of` meets its contract: the list in the code is that column of the document's table, and past its end there is no phase.
+-- `clutch_of` meets its contract: each case by its phase, and elsewhere there is no clutch to ask for.
 -- Assumes nothing.
-use borrow.Author.Needs.{needs}
-use Rattle.phases.proofs.PhaseLaws.{column, past}
+use mathlib.Core.List.{[], _∷_}
+use Prim.Native.Nat.{zero-le}
+use native.Mathlib.Omega.{arith}
+use Rattle.phases.specs.Phases.{Row, clutchOf}
+use Rattle.phases.proofs.CaseLaws.{otherwise, past-working}
 use Rattle.phases.proofs.clutch_of.Statement.{statement}
 use Rattle.phases.proofs.clutch_of.Tie as tie
 
@@ -9,6 +12,11 @@ pub clutch-of-spec : {M : Type 1} → statement M
 clutch-of-spec =
     tie.close
     (tie.spec
-    (λ c. search needs)
-    (λ c. column (λ r. r .clutch) (c .before .args .phase))
-    (λ c. past (λ r. r .clutch) (c .before .args .phase) (c .if1 .left)))
+    (λ c. rw (c .match .keys1))
+    (λ c. rw (c .match2 .keys1))
+    (λ c. rw (c .match2 .keys2))
+    (λ c. rw (c .match2 .keys3))
+    (λ c. rw (c .match2 .keys4))
+    (λ c. otherwise clutchOf (17 ∷ 10 ∷ 6 ∷ 1 ∷ []) 0 22 (omega arith) _ zero-le (c .before .if1 .taken) (c .match2 .rest))
+    (λ c. past-working (λ (r : Row). r .clutch) _ (c .before .if1 .left))
+    (λ c. past-working (λ (r : Row). r .clutch) _ (c .before .if1 .left)))

@@ -1,7 +1,10 @@
--- `next_of` meets its contract: the list in the code is that column of the document's table, and past its end there is no phase.
+-- `next_of` meets its contract: each case by its phase, and elsewhere there is no next phase.
 -- Assumes nothing.
-use borrow.Author.Needs.{needs}
-use Rattle.phases.proofs.PhaseLaws.{column, past}
+use mathlib.Core.List.{[], _∷_}
+use Prim.Native.Nat.{zero-le}
+use native.Mathlib.Omega.{arith}
+use Rattle.phases.specs.Phases.{Row, nextOf}
+use Rattle.phases.proofs.CaseLaws.{otherwise, past-working}
 use Rattle.phases.proofs.next_of.Statement.{statement}
 use Rattle.phases.proofs.next_of.Tie as tie
 
@@ -9,6 +12,30 @@ pub next-of-spec : {M : Type 1} → statement M
 next-of-spec =
     tie.close
     (tie.spec
-    (λ c. search needs)
-    (λ c. column (λ r. r .next) (c .before .args .phase))
-    (λ c. past (λ r. r .next) (c .before .args .phase) (c .if1 .left)))
+    (λ c. rw (c .match .keys1))
+    (λ c. rw (c .match2 .keys1))
+    (λ c. rw (c .match2 .keys2))
+    (λ c. rw (c .match2 .keys3))
+    (λ c. rw (c .match2 .keys4))
+    (λ c. rw (c .match2 .keys5))
+    (λ c. otherwise nextOf (5 ∷ 4 ∷ 3 ∷ 2 ∷ 1 ∷ []) 0 6 (omega arith) _ zero-le (c .before .if1 .taken) (c .match2 .rest))
+    (λ c. rw (c .match3 .keys1))
+    (λ c. rw (c .match3 .keys2))
+    (λ c. rw (c .match3 .keys3))
+    (λ c. rw (c .match3 .keys4))
+    (λ c. rw (c .match3 .keys5))
+    (λ c. rw (c .match3 .keys6))
+    (λ c. rw (c .match3 .keys7))
+    (λ c. rw (c .match3 .keys8))
+    (λ c. rw (c .match3 .keys9))
+    (λ c. rw (c .match3 .keys10))
+    (λ c. rw (c .match3 .keys11))
+    (λ c. otherwise nextOf (16 ∷ 15 ∷ 14 ∷ 13 ∷ 12 ∷ 11 ∷ 10 ∷ 9 ∷ 8 ∷ 7 ∷ 6 ∷ []) 6 11 (omega arith) _ (c .before .before .if1 .left) (c .before .if2 .taken) (c .match3 .rest))
+    (λ c. rw (c .match4 .keys1))
+    (λ c. rw (c .match4 .keys2))
+    (λ c. rw (c .match4 .keys3))
+    (λ c. rw (c .match4 .keys4))
+    (λ c. rw (c .match4 .keys5))
+    (λ c. otherwise nextOf (21 ∷ 20 ∷ 19 ∷ 18 ∷ 17 ∷ []) 17 5 (omega arith) _ (c .before .before .if2 .left) (c .before .if3 .taken) (c .match4 .rest))
+    (λ c. past-working (λ (r : Row). r .next) _ (c .before .if3 .left))
+    (λ c. past-working (λ (r : Row). r .next) _ (c .before .if3 .left)))
