@@ -7,6 +7,7 @@ import places
 import reached
 from corpus import case_of, packed
 from m9 import BOOLS, EVENTS, M9, NAMES_BY_CODE
+from pages import NotMade, table_of
 from program import ROOT, printed
 from records import packed_steps
 from rules import DEFAULT, FINISH, TICK
@@ -17,18 +18,9 @@ PAGE = ROOT / "docs" / "MANUAL.md"
 SETTLED = SETTLEMENTS + SETTLED_ACTIONS
 
 
-class NotMade(Exception):
-    """A part of the page that could not be made, or put in its place."""
-
-
 def run_text(steps):
     """A list of steps as document 01 writes it, where tN is a tick."""
     return "`" + " ".join(f"t{amount}" if code == TICK else str(code) for code, amount in steps) + "`"
-
-
-def table_of(head, rows):
-    """A table in Markdown."""
-    return "\n".join(f"| {' | '.join(row)} |" for row in (head, ["---"] * len(head), *rows))
 
 
 def code_of(event):
@@ -155,17 +147,3 @@ def flags_part(command):
 def parts(command):
     """The generated parts by name."""
     return {"settled": settled_part(), "events": events_part(), "flags": flags_part(command)}
-
-
-def marked(name):
-    """The pattern of a generated part in the page, with its markers."""
-    return re.compile(rf"(<!-- generated: {name} -->\n)(?:.*?\n)?(<!-- end of {name} -->)", re.DOTALL)
-
-
-def written(page, generated):
-    """The page with the generated parts in their places."""
-    for name, text in generated.items():
-        page, count = marked(name).subn(lambda found: f"{found.group(1)}{text}\n{found.group(2)}", page)
-        if count != 1:
-            raise NotMade(f"docs/MANUAL.md has {count} places for {name}")
-    return page

@@ -1,0 +1,84 @@
+"""The sheet's cells as the proved program answers them, one step at a time: next phases, limits, errors, requests and ends."""
+
+from typing import NamedTuple
+
+from table import DONE, ERROR, rules
+
+# table.py makes the second program's folder known.
+from corpus import case_of, packed
+from program import printed
+
+# An admitted table in which no two limits of a column are equal, so that an entry taken for another shows.
+APART = rules.DEFAULT._replace(Engine_Zero_DL=202, Clutch_Open_DL=153, Clutch_Close_DL=144, Gear_Release_DL=206,
+                               OpenClutch_DL=203, CloseClutch_DL=196, ChangeDL=2000)
+
+
+class Question(NamedTuple):
+    """A cell of the sheet in words, a step on a state, and the number and the phase that the answer has to have."""
+
+    cell: str
+    state: rules.State
+    code: int
+    amount: int
+    number: int
+    phase: int
+
+
+def told(cell, state, code, phase, amount=0):
+    """A step that is accepted and leads to this phase."""
+    return Question(cell, state, code, amount, 0, phase)
+
+
+def refused(cell, state, code, number, amount=0):
+    """A step that is refused with this number."""
+    return Question(cell, state, code, amount, number, state.phase)
+
+
+def asked_of_order(row, limits):
+    """Questions on a phase that has an order."""
+    at = rules.State(phase=row.phase)
+    ready, working, waiting = (at._replace(stage=stage) for stage in (rules.GOOD, rules.WORKING, rules.WAITING))
+    limit = {column: getattr(APART, by_order[row.order].name) for column, by_order in limits.items() if row.order in by_order}
+    yield told("next when taken", ready, rules.TAKE, row.next)
+    yield told("device limit", working, rules.TICK, row.phase, limit["device"])
+    yield refused("device limit", working, rules.TICK, rules.PAST_STAGE_LIMIT, limit["device"] + 1)
+    yield told("phase limit", at, rules.TICK, row.phase, limit["phase"])
+    yield refused("phase limit", at, rules.TICK, rules.PAST_PHASE_LIMIT, limit["phase"] + 1)
+    if row.clutch:
+        yield refused("latest take", ready._replace(clock=limit["ex"] + 1), rules.TAKE, rules.TOO_LATE)
+        yield told("latest take", ready._replace(clock=limit["ex"]), rules.TAKE, row.next)
+        yield told("after asking for the clutch", waiting._replace(clock=limit["de"]), rules.ASK_CLUTCH, row.clutch)
+        yield refused("earliest ask", waiting._replace(clock=limit["de"] - 1), rules.ASK_CLUTCH, rules.TOO_EARLY)
+        yield refused("error", working, rules.DEVICE_FAILED, rules.NOT_ALLOWED)
+    else:
+        yield refused("after asking for the clutch", waiting._replace(clock=1000), rules.ASK_CLUTCH, rules.NOT_ALLOWED)
+        yield told("error", working, rules.DEVICE_FAILED, row.phase)
+        yield told("error", at._replace(stage=rules.FAILED), rules.RAISE_ERROR, ERROR)
+
+
+def questions(table):
+    """All questions."""
+    for row in table.rows:
+        if row.order:
+            yield from asked_of_order(row, table.limits)
+        else:
+            at = rules.State(phase=row.phase)
+            yield refused("next when taken", at._replace(stage=rules.GOOD), rules.TAKE, rules.NOT_ALLOWED)
+            yield refused("after asking for the clutch", at._replace(stage=rules.WAITING), rules.ASK_CLUTCH, rules.NOT_ALLOWED)
+    for kind in table.kinds:
+        yield told(f"request {kind.request}", rules.State(box=rules.REQUESTS[kind.request].box), kind.request, kind.first)
+    yield told("finish", rules.State(phase=DONE), rules.FINISH, rules.AT_REST)
+    yield told("reset", rules.State(phase=ERROR), rules.RESET, rules.AT_REST)
+
+
+def facts(table, command):
+    """What the program answers, beside what the sheet says: pairs of a complaint and whether there is none."""
+    asked = list(questions(table))
+    cases = [packed(case_of("step", APART, each.state, each.code, each.amount)) for each in asked]
+    lines, faults = printed(command, cases)
+    for fault in faults:
+        yield fault, False
+    for each, line in zip(asked, lines):
+        word, number, _, _, _, phase, *_ = line.split() + 6 * ["nothing"]
+        yield (f"phase {each.state.phase}, {each.cell}: step {each.code} {each.amount} is answered {number} in phase {phase}, "
+               f"not {each.number} in phase {each.phase}"), (word, number, phase) == ("step", str(each.number), str(each.phase))

@@ -1,0 +1,200 @@
+"""The phase table as the project has it: the definitions of the crates, and the cases of the code beside them."""
+
+import re
+import sys
+from pathlib import Path
+from typing import Dict, List, NamedTuple, Tuple
+
+ROOT = Path(__file__).resolve().parent.parent
+sys.path.append(str(ROOT / "second"))
+
+import rules  # noqa: E402: the second program, for the manual's names of the limits
+
+PHASES, LIMITS, KINDS = (f"crates/{name}.antt" for name in ("phases/specs/Phases", "limits/specs/Limits", "promises/specs/Kinds"))
+CODE = "crates/phases/src/lib.rt"
+SOURCES = PHASES, LIMITS, KINDS, CODE
+
+DONE, ERROR = 22, 23
+
+
+class Unread(Exception):
+    """What is not there as it was looked for."""
+
+
+class Limit(NamedTuple):
+    """An entry of the limit table."""
+
+    entry: int
+    name: str
+    default: int
+
+
+class Row(NamedTuple):
+    """A phase: its order, the next phases (0 where there is none), and what stands behind its number on the sheet."""
+
+    phase: int
+    order: str
+    next: int
+    clutch: int
+    said: str
+
+
+class Kind(NamedTuple):
+    """A kind of shift: the code of its request, the phase that this enters, and the sum that no unfinished one is older than."""
+
+    name: str
+    request: int
+    first: int
+    sum: int
+
+
+class Table(NamedTuple):
+    """Phases, limits by order, kinds, and the channel's limit."""
+
+    rows: List[Row]
+    limits: Dict[str, Dict[str, Limit]]
+    kinds: List[Kind]
+    channel: Limit
+
+
+def found(pattern, text, what):
+    """The only place where a pattern stands."""
+    places = list(re.finditer(pattern, text, re.M | re.S))
+    if len(places) != 1:
+        raise Unread(f"{what} stands {len(places)} times")
+    return places[0]
+
+
+def words(name):
+    """A name of the definitions or the code in words: zeroTorque and ZERO_TORQUE are zero torque."""
+    return re.sub(r"(?<=[a-z])(?=[A-Z])|_", " ", name.strip("«»")).lower()
+
+
+def numbers(text):
+    """The numbers of a list."""
+    return [int(number) for number in re.findall(r"\d+", text)]
+
+
+def fields(text):
+    """The names of the eighteen entries in the definitions, in their order."""
+    return re.findall(r"«(\w+)»", found(r"^entries t =\n(.*?)\[\]$", text, "the list of entries").group(1))
+
+
+def entries(text):
+    """The eighteen entries, under the manual's names, by their names in the definitions."""
+    names, defaults = fields(text), numbers(found(r"^ +tableOf \(([^)]*)\)", text, "the default table").group(1))
+    if [name.replace("_", "") for name in names] != [name.replace("_", "").lower() for name in rules.Table._fields]:
+        raise Unread("the entries are not those of the second program")
+    return {name: Limit(entry, rules.Table._fields[entry], defaults[entry]) for entry, name in enumerate(names)}
+
+
+def orders(text):
+    """The orders by number."""
+    names = {int(number): words(name) for name, number in re.findall(r"^(\S+) = (\d+)$", text, re.M)}
+    return {number: names[number] for number in range(1, 7)}
+
+
+def rows(text):
+    """The rows of the phase table."""
+    lines = re.findall(r"row (\S+) (\d+) (\d+)  -- (\d+) ?(.*)$", text, re.M)
+    if [int(line[3]) for line in lines] != list(range(ERROR + 1)):
+        raise Unread("the rows of the phase table are not 0 to 23")
+    return [Row(int(phase), "" if order == "0" else words(order), int(next_), int(clutch), said)
+            for order, next_, clutch, phase, said in lines]
+
+
+def kinds(text, limits, all_entries):
+    """The three kinds, with the sums under the default table."""
+
+    def total(formula):
+        if formula.startswith("max"):
+            return max(total(part) for part in re.findall(r"\((\w+ t)\)", formula))
+        return sum(all_entries[part].default if part in all_entries else
+                   total(found(rf"^{part} t = (.*?)$", limits, part).group(1))
+                   for part in re.findall(r"«(\w+)»|(\w+) t", formula) for part in part if part)
+
+    sums = dict(re.findall(r"^sumOf t (\w+) = (.*)$", text, re.M))
+    first = re.findall(r"^firstPhase (\w+) = (\d+)$", text, re.M)
+    return [Kind(words(name), request, int(phase), total(sums[name])) for request, (name, phase) in enumerate(first, 1)]
+
+
+def limits_by_order(text, all_entries):
+    """The limits of the definitions, each column by order."""
+    by_number = list(all_entries.values())
+    columns = {}
+    for column in ("device", "phase", "ex", "de"):
+        listed = numbers(found(rf"^{column}Entries = (.*?)$", text, f"{column}Entries").group(1))
+        columns[column] = {order: by_number[listed[number]] for number, order in orders(text).items() if number < len(listed)}
+    return columns
+
+
+def read(texts):
+    """The phase table of the definitions."""
+    all_entries = entries(texts[LIMITS])
+    return Table(rows(texts[PHASES]), limits_by_order(texts[PHASES], all_entries),
+                 kinds(texts[KINDS], texts[LIMITS], all_entries), all_entries["channel_dl"])
+
+
+class Case(NamedTuple):
+    """A case of a choice: its phases, what it says, and the comment behind it."""
+
+    phases: Tuple[int, ...]
+    said: str
+    comment: str
+
+
+class Choice(NamedTuple):
+    """A choice of the code by phase: the ranges of its outer cases, its cases in their order, and what each `_` says."""
+
+    ranges: List[Tuple[int, int]]
+    cases: List[Case]
+    otherwise: List[str]
+
+    def of(self, phase):
+        """What is chosen for a phase."""
+        return next((case.said for case in self.cases if phase in case.phases), self.otherwise[-1])
+
+
+def body(code, name):
+    """The text of a function."""
+    return found(rf"^pub fn {name}\(.*?^}}$", code, name).group()
+
+
+def choice(code, name):
+    """The choice that a function makes by a `match` on the phase, and inside its ranges by further ones."""
+    made = Choice([], [], [])
+    for line in body(code, name).splitlines():
+        arm = re.match(r"( +)(\d+)(?:\.\.=(\d+))? => (?:(\w+),|match phase \{)(?: // (.*))?$", line)
+        otherwise = re.match(r" +_ => (\w+),$", line)
+        if otherwise:
+            made.otherwise.append(words(otherwise.group(1)))
+        elif arm:
+            indent, first, last, said, comment = arm.groups()
+            phases = range(int(first), int(last or first) + 1)
+            if len(indent) == 8:
+                made.ranges.append((phases[0], phases[-1]))
+            if said:
+                made.cases.append(Case(tuple(phases), words(said), comment or ""))
+        elif "=>" in line:
+            raise Unread(f"{name}: {line.strip()}")
+    return made
+
+
+def sheet_rows(code):
+    """The phases of each row of the sheet: a case of `order_of`, or several that have the phases of one row behind them."""
+    rows_ = []
+    for case in choice(code, "order_of").cases:
+        listed = tuple(numbers(case.comment)) or case.phases
+        if listed not in rows_:
+            rows_.append(listed)
+    return rows_
+
+
+def limits_in_code(code, name):
+    """A choice of a limit by order: the field that each order has."""
+    return {words(order): field for order, field in re.findall(r"^ +([A-Z_]+) => table\.(\w+),$", body(code, name), re.M)}
+
+
+def orders_in_code(code):
+    """The orders by number in the code."""
+    return {int(number): words(name) for name, number in re.findall(r"^pub const (\w+): u8 = (\d+);$", code, re.M)}
