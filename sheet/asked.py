@@ -1,4 +1,4 @@
-"""The sheet's cells as the proved program answers them, one step at a time: next phases, limits, errors, requests and ends."""
+"""The sheet's cells as the proved program answers them: next phases, limits, errors, requests and ends step by step; the defaults."""
 
 from typing import NamedTuple
 
@@ -6,6 +6,7 @@ from table import DONE, ERROR, rules
 
 # table.py makes the second program's folder known.
 from corpus import case_of, packed
+from files import HEADER
 from program import printed
 
 # An admitted table in which no two limits of a column are equal, so that an entry taken for another shows.
@@ -74,10 +75,14 @@ def questions(table):
 def facts(table, command):
     """What the program answers, beside what the sheet says: pairs of a complaint and whether there is none."""
     asked = list(questions(table))
-    cases = [packed(case_of("step", APART, each.state, each.code, each.amount)) for each in asked]
-    lines, faults = printed(command, cases)
+    steps = [case_of("step", APART, each.state, each.code, each.amount) for each in asked]
+    empty = case_of("read", HEADER.pack(HEADER.size, 0, HEADER.size, 0))
+    lines, faults = printed(command, [packed(case) for case in (*steps, empty)])
     for fault in faults:
         yield fault, False
+    default = lines[-1].split()[3:] if lines else []
+    for limit in (table.channel, *(limit for by_order in table.limits.values() for limit in by_order.values())):
+        yield f"the default of {limit.name} is not {limit.default}", default[limit.entry:limit.entry + 1] == [str(limit.default)]
     for each, line in zip(asked, lines):
         word, number, _, _, _, phase, *_ = line.split() + 6 * ["nothing"]
         yield (f"phase {each.state.phase}, {each.cell}: step {each.code} {each.amount} is answered {number} in phase {phase}, "

@@ -9,7 +9,7 @@ from typing import Dict, NamedTuple
 from table import DONE, ERROR, Unread
 
 WIDTH, HEIGHT, MARGIN = 297, 420, 8
-LETTERS, NUMERALS = 9, 13  # sizes of type; capitals and figures of the smaller are 6.5 mm high
+LETTERS, NUMERALS, FIGURE = 9, 13, 6.4  # sizes of type, and how high capitals and figures of the smaller are
 BOX_WIDTH, BOX_HEIGHT, TOP, DOWN = 37, 32, 66, 45
 REQUEST_HEIGHT, GAP, BAR = 22, DOWN - BOX_HEIGHT, 14
 LINE, CELL = 0.8, 9.3  # the width of a line, the height of a cell in a box
@@ -86,7 +86,7 @@ def error_mark(x, y):
 
 def cells(column, last, bottom, left, right):
     """The two cells at the foot of a box or above others, and what stands in them."""
-    (begin, end), standing = edges(column, last), bottom - (CELL - 6.5) / 2
+    (begin, end), standing = edges(column, last), bottom - (CELL - FIGURE) / 2
     centre = (begin + end) / 2
     return [stroke(begin, bottom - CELL, end, bottom - CELL), stroke(centre, bottom - CELL, centre, bottom),
             text((begin + centre) / 2, standing, left), text((centre + end) / 2, standing, right)]

@@ -106,12 +106,14 @@ def rows(text):
 def kinds(text, limits, all_entries):
     """The three kinds, with the sums under the default table."""
 
+    def value(part):
+        """An entry's default, or the value of a sum that has a name."""
+        return all_entries[part].default if part in all_entries else total(found(rf"^{part} t = (.*?)$", limits, part).group(1))
+
     def total(formula):
-        if formula.startswith("max"):
-            return max(total(part) for part in re.findall(r"\((\w+ t)\)", formula))
-        return sum(all_entries[part].default if part in all_entries else
-                   total(found(rf"^{part} t = (.*?)$", limits, part).group(1))
-                   for part in re.findall(r"«(\w+)»|(\w+) t", formula) for part in part if part)
+        """The value of a sum, or of the larger of two."""
+        parts = [value(part.strip("«»")) for part in re.findall(r"«\w+»|\w+(?= t)", formula)]
+        return max(parts) if formula.startswith("max") else sum(parts)
 
     sums = dict(re.findall(r"^sumOf t (\w+) = (.*)$", text, re.M))
     first = re.findall(r"^firstPhase (\w+) = (\d+)$", text, re.M)
@@ -182,12 +184,8 @@ def choice(code, name):
 
 def sheet_rows(code):
     """The phases of each row of the sheet: a case of `order_of`, or several that have the phases of one row behind them."""
-    rows_ = []
-    for case in choice(code, "order_of").cases:
-        listed = tuple(numbers(case.comment)) or case.phases
-        if listed not in rows_:
-            rows_.append(listed)
-    return rows_
+    listed = [tuple(numbers(case.comment)) or case.phases for case in choice(code, "order_of").cases]
+    return list(dict.fromkeys(listed))
 
 
 def limits_in_code(code, name):
