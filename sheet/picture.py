@@ -185,6 +185,7 @@ class Picture:
         """The picture as SVG."""
         parts = [element("title", "The phases of a gear shift"),
                  element("desc", "Three kinds of shift as paths from the request to done, with the limits by default in milliseconds"),
+                 element("style", f"@page {{ size: {WIDTH}mm {HEIGHT}mm; margin: 0 }}"),
                  element("rect", width=WIDTH, height=HEIGHT, fill="white"),
                  text(WIDTH / 2, 23, "The phases of a gear shift", font_size=17, font_weight="bold"), *self.legend()]
         for kind, column, last in self.kinds:
