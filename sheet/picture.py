@@ -135,8 +135,8 @@ class Picture:
         place, top = self.places[row.phase], self.top(row.phase)
         column, last, bottom, centre = place.column, place.last, top + BOX_HEIGHT, middle(place.column, place.last)
         limits = str(self.limit("device", row)), str(self.limit("phase", row))
-        yield box(column, last, top, BOX_HEIGHT, stroke_width=2 * LINE if row.clutch else LINE)
         if row.clutch:
+            yield box(column, last, top, BOX_HEIGHT, stroke_width=2 * LINE)
             figure = element("tspan", row.phase, font_size=NUMERALS, font_weight="bold")
             yield element("text", f"{figure} {escape(row.order)}", x=centre, y=top + 10.9)
             yield from cells(column, last, bottom - CELL, *limits)
@@ -145,12 +145,18 @@ class Picture:
             yield text(middle(column) + 4, bottom + 8, "take", text_anchor="start")
             yield text(middle(last) + 4, bottom + 8, "ask", text_anchor="start")
         else:
-            yield text(centre, top + 10.9, str(row.phase), font_size=NUMERALS, font_weight="bold")
-            yield text(centre, top + 19.6, row.order)
-            yield from cells(column, last, bottom, *limits)
+            yield from self.box(column, top, row, limits)
             yield stroke(centre + 12, bottom, centre + 12, bottom + 4, stroke_dasharray="1.4 1", stroke_width=1.4)
             yield from error_mark(centre + 12, bottom + 8.3)
         yield from arrow(middle(column), bottom, self.top(row.next))
+
+    @staticmethod
+    def box(column, top, row, limits):
+        """The box of a phase of a clutch or gear order, with these for its limits."""
+        yield box(column, column, top, BOX_HEIGHT)
+        yield text(middle(column), top + 10.9, str(row.phase), font_size=NUMERALS, font_weight="bold")
+        yield text(middle(column), top + 19.6, row.order)
+        yield from cells(column, column, top + BOX_HEIGHT, *limits)
 
     def kind(self, kind, column, last):
         """The request of a kind above its first phase, and the bar in which it is done."""
@@ -165,10 +171,8 @@ class Picture:
     def legend(self):
         """How to read a box, in the corner where no path is, and what an error leads to."""
         left, top, beside = edges(0, 0)[0], TOP - GAP - REQUEST_HEIGHT, edges(0, 0)[1] + 4
-        yield box(0, 0, top, BOX_HEIGHT)
-        yield text(middle(0), top + 10.9, "7", font_size=NUMERALS, font_weight="bold")
-        yield text(middle(0), top + 19.6, "open")
-        yield from cells(0, 0, top + BOX_HEIGHT, "a", "b")
+        example = next(row for row in self.table.rows if row.order and not row.clutch)
+        yield from self.box(0, top, example, ("a", "b"))
         for x, y, said in [(beside, 10.9, "phase"), (beside, 19.6, "order"), (beside, 30.4, "limits, ms"),
                            (left, 46, "a"), (left + 11, 46, "of the device"), (left, 57, "b"), (left + 11, 57, "of the phase"),
                            (left, 68, "≤"), (left + 11, 68, "latest take"), (left, 79, "≥"), (left + 11, 79, "earliest ask"),

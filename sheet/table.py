@@ -14,7 +14,10 @@ PHASES, LIMITS, KINDS = (f"crates/{name}.antt" for name in ("phases/specs/Phases
 CODE = "crates/phases/src/lib.rt"
 SOURCES = PHASES, LIMITS, KINDS, CODE
 
-DONE, ERROR = 22, 23
+DONE, ERROR = rules.DONE, rules.ERROR
+
+# The ranges of phases in each choice of the code: rest, working, done and error.
+RANGES = [(0, 0), (1, DONE - 1), (DONE, ERROR)]
 
 
 class Unread(Exception):
@@ -85,6 +88,8 @@ def entries(text):
     names, defaults = fields(text), numbers(found(r"^ +tableOf \(([^)]*)\)", text, "the default table").group(1))
     if [name.replace("_", "") for name in names] != [name.replace("_", "").lower() for name in rules.Table._fields]:
         raise Unread("the entries are not those of the second program")
+    if len(defaults) != len(names):
+        raise Unread(f"the default table has {len(defaults)} entries, not {len(names)}")
     return {name: Limit(entry, rules.Table._fields[entry], defaults[entry]) for entry, name in enumerate(names)}
 
 
@@ -133,8 +138,12 @@ def limits_by_order(text, all_entries):
 def read(texts):
     """The phase table of the definitions."""
     all_entries = entries(texts[LIMITS])
-    return Table(rows(texts[PHASES]), limits_by_order(texts[PHASES], all_entries),
-                 kinds(texts[KINDS], texts[LIMITS], all_entries), all_entries["channel_dl"])
+    limits = limits_by_order(texts[PHASES], all_entries)
+    made = Table(rows(texts[PHASES]), limits, kinds(texts[KINDS], texts[LIMITS], all_entries), all_entries["channel_dl"])
+    for row in made.rows:
+        if bool(row.clutch) != (row.order in limits["de"]):
+            raise Unread(f"phase {row.phase}: the clutch is asked for in the phases of the engine's orders, and in no other")
+    return made
 
 
 class Case(NamedTuple):
@@ -173,6 +182,9 @@ def choice(code, name):
         elif arm:
             indent, first, last, said, comment = arm.groups()
             phases = range(int(first), int(last or first) + 1)
+            unknown = [phase for phase in (*phases, *numbers(comment or "")) if phase > ERROR]
+            if unknown:
+                raise Unread(f"{name}: there is no phase {unknown[0]}")
             if len(indent) == 8:
                 made.ranges.append((phases[0], phases[-1]))
             if said:
