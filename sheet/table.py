@@ -175,20 +175,20 @@ def choice(code, name):
     """The choice that a function makes by a `match` on the phase, and inside its ranges by further ones."""
     made = Choice([], [], [])
     for line in body(code, name).splitlines():
-        arm = re.match(r"( +)(\d+)(?:\.\.=(\d+))? => (?:(\w+),|match phase \{)(?: // (.*))?$", line)
+        arm = re.match(r"( +)(\d+)(?:\.\.=(\d+)|((?: \| \d+)*)) => (?:(\w+),|match phase \{)(?: // (.*))?$", line)
         otherwise = re.match(r" +_ => (\w+),$", line)
         if otherwise:
             made.otherwise.append(words(otherwise.group(1)))
         elif arm:
-            indent, first, last, said, comment = arm.groups()
-            phases = range(int(first), int(last or first) + 1)
+            indent, first, last, others, said, comment = arm.groups()
+            phases = *range(int(first), int(last or first) + 1), *numbers(others or "")
             unknown = [phase for phase in (*phases, *numbers(comment or "")) if phase > ERROR]
             if unknown:
                 raise Unread(f"{name}: there is no phase {unknown[0]}")
             if len(indent) == 8:
                 made.ranges.append((phases[0], phases[-1]))
             if said:
-                made.cases.append(Case(tuple(phases), words(said), comment or ""))
+                made.cases.append(Case(phases, words(said), comment or ""))
         elif "=>" in line:
             raise Unread(f"{name}: {line.strip()}")
     return made
@@ -201,8 +201,8 @@ def sheet_rows(code):
 
 
 def limits_in_code(code, name):
-    """A choice of a limit by order: the field that each order has."""
-    return {words(order): field for order, field in re.findall(r"^ +([A-Z_]+) => table\.(\w+),$", body(code, name), re.M)}
+    """A choice of a limit by order: the field, or the number of the entry, that each order has."""
+    return {words(order): said for order, said in re.findall(r"^ +([A-Z]\w*) => (?:table\.)?(\w+),$", body(code, name), re.M)}
 
 
 def orders_in_code(code):

@@ -6,6 +6,7 @@ use Rattle.limits.proofs.Table.broken_rule.Reads as broken-rule-reads
 use Rattle.limits.proofs.Table.default.Reads as default-reads
 use Rattle.limits.proofs.Table.entries.Reads as entries-reads
 use Rattle.limits.proofs.Table.of.Reads as of-reads
+use Rattle.limits.proofs.entry_at.Reads as entry-at-reads
 
 pub default : Determined default-reads.Post
 default κs a x y at at′ p q = p ∙ sym q
@@ -18,3 +19,6 @@ of κs a x y at at′ p q = p ∙ sym q
 
 pub entries : Determined entries-reads.Post
 entries κs a x y at at′ p q = p ∙ sym q
+
+pub entry-at : Determined entry-at-reads.Post
+entry-at κs a x y at at′ p q = p ∙ sym q

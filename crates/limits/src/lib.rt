@@ -2,7 +2,7 @@
 ghost use mathlib.Core.Path.{_≡_};
 ghost use Prim.Native.Nat.{_+_, _*_, _≤_};
 ghost use Rattle.checks.specs.Checks.{first, numbered};
-ghost use Rattle.limits.specs.Limits.{default, entries, tableOf};
+ghost use Rattle.limits.specs.Limits.{default, entries, entry, tableOf};
 ghost use Rattle.limits.specs.Rules.{atLeast1, engineRules, deviceRules, askRules, routeRules, brokenRule};
 
 // The limits under the manual's names, in milliseconds, in the order of their entry numbers 0 to 17.
@@ -230,6 +230,16 @@ impl Table {
             & (1 <= self.close_clutch_dl)
             & (1 <= self.change_dl)
     }
+}
+
+// The entry of this number, 0 where there is none.
+pub fn entry_at(entries: &[u16; 18], number: usize) -> u16
+    ensures { λ r. ⌜ r ≡ entry (tableOf (now (entries .entry))) number ⌝ }
+{
+    if number < 18 {
+        return entries[number];
+    }
+    0
 }
 
 // Both ways over the channel, and a limit.

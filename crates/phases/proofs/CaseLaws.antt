@@ -26,14 +26,16 @@ no-case : (cases : List ℕ) (p : ℕ) → NoneOf cases p → OneOf cases p → 
 no-case [] p r h = h
 no-case (k ∷ ks) p r h = ⊎-elim (r .1) (no-case ks p (r .0)) h
 
--- a range in which f is 0 but at the cases: what none of the cases has
+-- a range in which f has one value but at the cases: what none of the cases has
 pub otherwise :
-    (f : ℕ → ℕ) (cases : List ℕ) (i n : ℕ) → From (λ k. T (has cases k || eqb 0 (f k))) i n → (p : ℕ) → i ≤ p → p < i + n → NoneOf cases p → 0 ≡ f p
-otherwise f cases i n each p l h r =
+    (v : ℕ) (f : ℕ → ℕ) (cases : List ℕ) (i n : ℕ)
+    → From (λ k. T (has cases k || eqb v (f k))) i n
+    → (p : ℕ) → i ≤ p → p < i + n → NoneOf cases p → v ≡ f p
+otherwise v f cases i n each p l h r =
     ⊎-elim
     (λ c. absurd (no-case cases p r (found cases p c)))
-    (λ z. eqb→eq 0 (f p) z)
-    (either (has cases p) (eqb 0 (f p)) (from (λ k. T (has cases k || eqb 0 (f k))) i n each p l h))
+    (λ z. eqb→eq v (f p) z)
+    (either (has cases p) (eqb v (f p)) (from (λ k. T (has cases k || eqb v (f k))) i n each p l h))
 
 -- done, error, and past the table: no column says anything
 pub past-working : (f : Row → ℕ) (p : ℕ) → 22 ≤ p → f (row 0 0 0) ≡ f (rowOf p)

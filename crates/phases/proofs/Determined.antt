@@ -5,6 +5,8 @@ use Rattle.checks.specs.Determined.{Determined}
 use Rattle.phases.proofs.next_of.Reads as next-of-reads
 use Rattle.phases.proofs.clutch_of.Reads as clutch-of-reads
 use Rattle.phases.proofs.order_of.Reads as order-of-reads
+use Rattle.phases.proofs.device_entry.Reads as device-entry-reads
+use Rattle.phases.proofs.phase_entry.Reads as phase-entry-reads
 use Rattle.phases.proofs.device_limit.Reads as device-limit-reads
 use Rattle.phases.proofs.phase_limit.Reads as phase-limit-reads
 use Rattle.phases.proofs.latest_take.Reads as latest-take-reads
@@ -19,6 +21,12 @@ clutch-of κs a x y at at′ p q = p ∙ sym q
 
 pub order-of : Determined order-of-reads.Post
 order-of κs a x y at at′ p q = p ∙ sym q
+
+pub device-entry : Determined device-entry-reads.Post
+device-entry κs a x y at at′ p q = p ∙ sym q
+
+pub phase-entry : Determined phase-entry-reads.Post
+phase-entry κs a x y at at′ p q = p ∙ sym q
 
 pub device-limit : Determined device-limit-reads.Post
 device-limit κs a x y at at′ p q = p ∙ sym q

@@ -1,7 +1,9 @@
 // The phase table of document 01, and the limits that a phase has by its order.
 ghost use mathlib.Core.Path.{_≡_};
-ghost use Rattle.phases.specs.Phases.{orderOf, nextOf, clutchOf, deviceLimit, phaseLimit, latestTake, earliestAsk, unfinished};
+ghost use lib.ListN.{getD};
+ghost use Rattle.phases.specs.Phases.{orderOf, nextOf, clutchOf, deviceEntries, phaseEntries, deviceLimit, phaseLimit, latestTake, earliestAsk, unfinished};
 use limits::Table;
+use limits::entry_at;
 
 // The orders, numbered as the entries of their device limits.
 pub const SYNC: u8 = 1;
@@ -19,34 +21,41 @@ pub const RELEASE: u8 = 6;
 // The three choices below are columns of the wall sheet, docs/PHASES.md, case by case and in its order. What is empty there is 0
 // here. A comment behind a case is what the sheet has in its first column besides the number.
 
-// The order of a phase.
+// The order of a phase. The working phases stand by kinds of shift, here and below: no path leads from one kind to another.
 pub fn order_of(phase: u8) -> u8
     ensures { λ r. ⌜ r ≡ orderOf phase ⌝ }
 {
     match phase {
         0..=0 => 0, // at rest
         1..=21 => match phase {
-            1 => SYNC, // (from neutral)
-            2 => OPEN,
-            3 => SET,
-            4 => SET,
-            5 => CLOSE,
-            6 => ZERO_TORQUE, // (gear to gear)
-            7 => OPEN,
-            8 => RELEASE,
-            9 => RELEASE,
-            10 => SYNC,
-            11 => OPEN,
-            12 => SET,
-            13 => SET, // 13 / 14
-            14 => SET, // 13 / 14
-            15 => CLOSE, // 15, 16
-            16 => CLOSE, // 15, 16
-            17 => ZERO_TORQUE, // (to neutral)
-            18 => OPEN,
-            19 => RELEASE,
-            20 => RELEASE,
-            21 => CLOSE,
+            1..=5 => match phase {
+                1 => SYNC, // (from neutral)
+                2 => OPEN,
+                3 => SET,
+                4 => SET,
+                5 => CLOSE,
+                _ => 0,
+            },
+            6..=16 => match phase {
+                6 => ZERO_TORQUE, // (gear to gear)
+                7 => OPEN,
+                8 => RELEASE,
+                9 => RELEASE,
+                10 => SYNC,
+                11 => OPEN,
+                12 => SET,
+                13 | 14 => SET,
+                15 | 16 => CLOSE,
+                _ => 0,
+            },
+            17..=21 => match phase {
+                17 => ZERO_TORQUE, // (to neutral)
+                18 => OPEN,
+                19 => RELEASE,
+                20 => RELEASE,
+                21 => CLOSE,
+                _ => 0,
+            },
             _ => 0,
         },
         22..=23 => 0, // done, error
@@ -54,7 +63,7 @@ pub fn order_of(phase: u8) -> u8
     }
 }
 
-// The next phase when a phase's order is taken. The working phases stand by kinds of shift: no path leads from one to another.
+// The next phase when a phase's order is taken.
 pub fn next_of(phase: u8) -> u8
     ensures { λ r. ⌜ r ≡ nextOf phase ⌝ }
 {
@@ -79,8 +88,7 @@ pub fn next_of(phase: u8) -> u8
                 12 => 22,
                 13 => 15, // 13 / 14
                 14 => 16, // 13 / 14
-                15 => 22, // 15, 16
-                16 => 22, // 15, 16
+                15 | 16 => 22,
                 _ => 0,
             },
             17..=21 => match phase {
@@ -116,36 +124,49 @@ pub fn clutch_of(phase: u8) -> u8
     }
 }
 
+// The entry of an order's device limit, and that of its phase limit; 18, which is no entry, where there is no such order.
+pub fn device_entry(order: u8) -> usize
+    ensures { λ r. ⌜ r ≡ getD deviceEntries order 18 ⌝ }
+{
+    match order {
+        0 => 18,
+        SYNC => 1,
+        ZERO_TORQUE => 2,
+        OPEN => 3,
+        CLOSE => 4,
+        SET => 5,
+        RELEASE => 6,
+        _ => 18,
+    }
+}
+
+pub fn phase_entry(order: u8) -> usize
+    ensures { λ r. ⌜ r ≡ getD phaseEntries order 18 ⌝ }
+{
+    match order {
+        0 => 18,
+        SYNC => 9,
+        ZERO_TORQUE => 10,
+        OPEN => 13,
+        CLOSE => 16,
+        SET => 14,
+        RELEASE => 15,
+        _ => 18,
+    }
+}
+
 // The device limit of an order.
 pub fn device_limit(table: Table, order: u8) -> u16
     ensures { λ r. ⌜ r ≡ deviceLimit table order ⌝ }
 {
-    match order {
-        0 => 0,
-        SYNC => table.engine_sync_dl,
-        ZERO_TORQUE => table.engine_zero_dl,
-        OPEN => table.clutch_open_dl,
-        CLOSE => table.clutch_close_dl,
-        SET => table.gear_set_dl,
-        RELEASE => table.gear_release_dl,
-        _ => 0,
-    }
+    entry_at(&table.entries(), device_entry(order))
 }
 
 // The phase limit of an order.
 pub fn phase_limit(table: Table, order: u8) -> u16
     ensures { λ r. ⌜ r ≡ phaseLimit table order ⌝ }
 {
-    match order {
-        0 => 0,
-        SYNC => table.sync_dl,
-        ZERO_TORQUE => table.zero_dl,
-        OPEN => table.open_clutch_dl,
-        CLOSE => table.close_clutch_dl,
-        SET => table.set_gear_dl,
-        RELEASE => table.release_dl,
-        _ => 0,
-    }
+    entry_at(&table.entries(), phase_entry(order))
 }
 
 // The EX of an order.

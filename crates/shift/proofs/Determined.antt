@@ -7,7 +7,9 @@ use Rattle.shift.proofs.State.start.Reads as start-reads
 use Rattle.shift.proofs.State.step.Reads as step-reads
 use Rattle.shift.proofs.State.unlisted.Reads as unlisted-reads
 use Rattle.shift.proofs.State.judged_listed.Reads as judged-listed-reads
+use Rattle.shift.proofs.State.judged_step.Reads as judged-step-reads
 use Rattle.shift.proofs.Step.of.Reads as of-reads
+use Rattle.shift.proofs.Step.of_head.Reads as of-head-reads
 use Rattle.shift.proofs.refusal_of.Reads as refusal-of-reads
 
 pub start : Determined start-reads.Post
@@ -30,3 +32,9 @@ refusal κs a x y at at′ p q = p ∙ sym q
 
 pub refusal-of : Determined refusal-of-reads.Post
 refusal-of κs a x y at at′ p q = p ∙ sym q
+
+pub of-head : Determined of-head-reads.Post
+of-head κs a x y at at′ p q = p ∙ sym q
+
+pub judged-step : Determined judged-step-reads.Post
+judged-step κs a x y at at′ p q = p ∙ sym q

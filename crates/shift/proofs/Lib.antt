@@ -1,5 +1,6 @@
 pub mod StepLaws
 pub mod ReadingLaws
+pub mod HeadLaws
 pub mod AnswerLaws
 pub mod ListedLaws
 pub mod Determined

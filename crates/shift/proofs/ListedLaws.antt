@@ -73,7 +73,7 @@ stays-listed s WrongCode h = h
 stays-listed s WrongAmount h = h
 
 -- so an accepted step leads from a listed state to a listed one
-led-to : (k : ℕ) (next s : State) → answer k next s .number ≡ 0 → answer k next s .state ≡ next
+pub led-to : (k : ℕ) (next s : State) → answer k next s .number ≡ 0 → answer k next s .state ≡ next
 led-to zero next s z = refl
 led-to (suc k) next s z = absurd (omega arith)
 

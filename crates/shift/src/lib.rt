@@ -1,8 +1,12 @@
 // The shift machine of document 01: one step on any state, any table, any code and any amount.
 ghost use mathlib.Core.Path.{_≡_};
+ghost use mathlib.Core.Bool.{cond, _&&_};
+ghost use Prim.Native.Nat.{_/_, _%_};
+ghost use lib.Dec.{leb};
 ghost use Rattle.checks.specs.Checks.{first};
+ghost use Rattle.shift.specs.declared.Reading.the-variants.{WrongCode, WrongAmount};
 ghost use Rattle.shift.specs.States.{start};
-ghost use Rattle.shift.specs.Steps.{allowed};
+ghost use Rattle.shift.specs.Steps.{allowed, effect};
 ghost use Rattle.shift.specs.Answers.{plain, ticking, reading, refusal, checksOf, led, refused, answer, judged, stepOn};
 use limits::Table;
 
@@ -57,29 +61,50 @@ impl Step {
     pub fn of(code: u8, middle: u8, amount: u32) -> Reading
         ensures { λ r. ⌜ r ≡ reading code middle amount ⌝ }
     {
+        Step::of_head(code as u32 + 256 * (middle as u32), amount)
+    }
+
+    // The same of a code and a middle byte as one number, the code below.
+    pub fn of_head(head: u32, amount: u32) -> Reading
+        ensures { λ r. ⌜ r ≡ reading (head % 256) (head / 256) amount ⌝ }
+    {
         // Most records are ticks: one with a good middle byte is asked for first.
-        let head = code as u32 + 256 * (middle as u32);
         if head == 12 {
             return ticking(0, amount);
         }
-        match code {
-            0 => Reading::WrongCode,
-            1 => plain(Step::FromNeutral, middle, amount),
-            2 => plain(Step::GearToGear, middle, amount),
-            3 => plain(Step::ToNeutral, middle, amount),
-            4 => plain(Step::Deliver, middle, amount),
-            5 => plain(Step::DeviceGood, middle, amount),
-            6 => plain(Step::DeviceFailed, middle, amount),
-            7 => plain(Step::EngineWaits, middle, amount),
-            8 => plain(Step::Take, middle, amount),
-            9 => plain(Step::AskClutch, middle, amount),
-            10 => plain(Step::RaiseError, middle, amount),
-            11 => plain(Step::Finish, middle, amount),
-            12 => Reading::WrongAmount, // the middle byte is not 0
-            13 => plain(Step::Reset, middle, amount),
-            _ => Reading::WrongCode,
+        if amount != 0 {
+            return wrong(head);
+        }
+        match head {
+            1 => Reading::Means(Step::FromNeutral),
+            2 => Reading::Means(Step::GearToGear),
+            3 => Reading::Means(Step::ToNeutral),
+            4 => Reading::Means(Step::Deliver),
+            5 => Reading::Means(Step::DeviceGood),
+            6 => Reading::Means(Step::DeviceFailed),
+            7 => Reading::Means(Step::EngineWaits),
+            8 => Reading::Means(Step::Take),
+            9 => Reading::Means(Step::AskClutch),
+            10 => Reading::Means(Step::RaiseError),
+            11 => Reading::Means(Step::Finish),
+            13 => Reading::Means(Step::Reset),
+            _ => wrong(head),
         }
     }
+}
+
+// No step: there is no such code, or its middle byte or its amount is wrong.
+fn wrong(head: u32) -> Reading
+    ensures { λ r. ⌜ r ≡ cond (leb 1 (head % 256) && leb (head % 256) 13) WrongAmount WrongCode ⌝ }
+{
+    let code = head % 256;
+    if code < 1 {
+        return Reading::WrongCode;
+    }
+    if 13 < code {
+        return Reading::WrongCode;
+    }
+    Reading::WrongAmount
 }
 
 // A step other than a tick: its middle byte and its amount are 0.
@@ -186,6 +211,13 @@ impl State {
         let Reading::Means(x) = reading else {
             return self.refused(reading.refusal());
         };
+        self.judged_step(table, x)
+    }
+
+    // The same for a step.
+    pub fn judged_step(self, table: Table, x: Step) -> Answer
+        ensures { λ r. ⌜ r ≡ answer (first (allowed table self x)) (effect self x) self ⌝ }
+    {
         let number = self.guard(table, x);
         if number != 0 {
             return self.refused(number);

@@ -1,4 +1,5 @@
 pub mod Judging
+pub mod Standing
 pub mod Verdicts
 pub mod LongInputs
 pub mod WrittenFiles

@@ -17,6 +17,6 @@ clutch-of-spec =
     (λ c. rw (c .match2 .keys2))
     (λ c. rw (c .match2 .keys3))
     (λ c. rw (c .match2 .keys4))
-    (λ c. otherwise clutchOf (17 ∷ 10 ∷ 6 ∷ 1 ∷ []) 0 22 (omega arith) _ zero-le (c .before .if1 .taken) (c .match2 .rest))
+    (λ c. otherwise 0 clutchOf (17 ∷ 10 ∷ 6 ∷ 1 ∷ []) 0 22 (omega arith) _ zero-le (c .before .if1 .taken) (c .match2 .rest))
     (λ c. past-working (λ (r : Row). r .clutch) _ (c .before .if1 .left))
     (λ c. past-working (λ (r : Row). r .clutch) _ (c .before .if1 .left)))

@@ -3,7 +3,7 @@
 use mathlib.Core.List.{[], _∷_}
 use Prim.Native.Nat.{zero-le}
 use native.Mathlib.Omega.{arith}
-use Rattle.phases.specs.Phases.{Row, nextOf}
+use Rattle.phases.specs.Phases.{Row, done, nextOf}
 use Rattle.phases.proofs.CaseLaws.{otherwise, past-working}
 use Rattle.phases.proofs.next_of.Statement.{statement}
 use Rattle.phases.proofs.next_of.Tie as tie
@@ -18,7 +18,7 @@ next-of-spec =
     (λ c. rw (c .match2 .keys3))
     (λ c. rw (c .match2 .keys4))
     (λ c. rw (c .match2 .keys5))
-    (λ c. otherwise nextOf (5 ∷ 4 ∷ 3 ∷ 2 ∷ 1 ∷ []) 1 5 (omega arith) _ (c .before .before .if2 .left) (c .before .if3 .taken) (c .match2 .rest))
+    (λ c. otherwise 0 nextOf (5 ∷ 4 ∷ 3 ∷ 2 ∷ 1 ∷ []) 1 5 (omega arith) _ (c .before .before .if2 .left) (c .before .if3 .taken) (c .match2 .rest))
     (λ c. rw (c .match3 .keys1))
     (λ c. rw (c .match3 .keys2))
     (λ c. rw (c .match3 .keys3))
@@ -28,16 +28,16 @@ next-of-spec =
     (λ c. rw (c .match3 .keys7))
     (λ c. rw (c .match3 .keys8))
     (λ c. rw (c .match3 .keys9))
-    (λ c. rw (c .match3 .keys10))
-    (λ c. rw (c .match3 .keys11))
-    (λ c. otherwise nextOf (16 ∷ 15 ∷ 14 ∷ 13 ∷ 12 ∷ 11 ∷ 10 ∷ 9 ∷ 8 ∷ 7 ∷ 6 ∷ []) 6 11 (omega arith) _ (c .before .before .if3 .left) (c .before .if4 .taken) (c .match3 .rest))
+    (λ c. otherwise done nextOf (14 ∷ 13 ∷ 12 ∷ 11 ∷ 10 ∷ 9 ∷ 8 ∷ 7 ∷ 6 ∷ []) 6 11 (omega arith) _ (c .before .if5 .left) (c .if6 .taken) (c .before .before .match3 .rest))
+    (λ c. otherwise 0 nextOf [] 6 0 tt _ (c .before .before .before .if3 .left) (c .if5 .taken) tt)
+    (λ c. otherwise 0 nextOf [] 17 0 tt _ (c .if6 .left) (c .before .before .before .if4 .taken) tt)
     (λ c. rw (c .match4 .keys1))
     (λ c. rw (c .match4 .keys2))
     (λ c. rw (c .match4 .keys3))
     (λ c. rw (c .match4 .keys4))
     (λ c. rw (c .match4 .keys5))
-    (λ c. otherwise nextOf (21 ∷ 20 ∷ 19 ∷ 18 ∷ 17 ∷ []) 17 5 (omega arith) _ (c .before .before .if4 .left) (c .before .if5 .taken) (c .match4 .rest))
-    (λ c. otherwise nextOf [] 0 1 (omega arith) _ zero-le (c .if2 .taken) tt)
-    (λ c. past-working (λ (r : Row). r .next) _ (c .if5 .left))
+    (λ c. otherwise 0 nextOf (21 ∷ 20 ∷ 19 ∷ 18 ∷ 17 ∷ []) 17 5 (omega arith) _ (c .before .before .if4 .left) (c .before .if7 .taken) (c .match4 .rest))
+    (λ c. otherwise 0 nextOf [] 0 1 (omega arith) _ zero-le (c .if2 .taken) tt)
+    (λ c. past-working (λ (r : Row). r .next) _ (c .if7 .left))
     (λ c. past-working (λ (r : Row). r .next) _ (c .before .if1 .left))
     (λ c. past-working (λ (r : Row). r .next) _ (c .before .if1 .left)))

@@ -3,7 +3,7 @@
 use mathlib.Core.List.{[], _∷_}
 use Prim.Native.Nat.{zero-le}
 use native.Mathlib.Omega.{arith}
-use Rattle.phases.specs.Phases.{Row, orderOf}
+use Rattle.phases.specs.Phases.{Row, set, close, orderOf}
 use Rattle.phases.proofs.CaseLaws.{otherwise, past-working}
 use Rattle.phases.proofs.order_of.Statement.{statement}
 use Rattle.phases.proofs.order_of.Tie as tie
@@ -18,22 +18,25 @@ order-of-spec =
     (λ c. rw (c .match2 .keys3))
     (λ c. rw (c .match2 .keys4))
     (λ c. rw (c .match2 .keys5))
-    (λ c. rw (c .match2 .keys6))
-    (λ c. rw (c .match2 .keys7))
-    (λ c. rw (c .match2 .keys8))
-    (λ c. rw (c .match2 .keys9))
-    (λ c. rw (c .match2 .keys10))
-    (λ c. rw (c .match2 .keys11))
-    (λ c. rw (c .match2 .keys12))
-    (λ c. rw (c .match2 .keys13))
-    (λ c. rw (c .match2 .keys14))
-    (λ c. rw (c .match2 .keys15))
-    (λ c. rw (c .match2 .keys16))
-    (λ c. rw (c .match2 .keys17))
-    (λ c. rw (c .match2 .keys18))
-    (λ c. rw (c .match2 .keys19))
-    (λ c. rw (c .match2 .keys20))
-    (λ c. rw (c .match2 .keys21))
-    (λ c. otherwise orderOf (21 ∷ 20 ∷ 19 ∷ 18 ∷ 17 ∷ 16 ∷ 15 ∷ 14 ∷ 13 ∷ 12 ∷ 11 ∷ 10 ∷ 9 ∷ 8 ∷ 7 ∷ 6 ∷ 5 ∷ 4 ∷ 3 ∷ 2 ∷ 1 ∷ []) 0 22 (omega arith) _ zero-le (c .before .if1 .taken) (c .match2 .rest))
+    (λ c. otherwise 0 orderOf (5 ∷ 4 ∷ 3 ∷ 2 ∷ 1 ∷ []) 1 5 (omega arith) _ (c .before .before .if2 .left) (c .before .if3 .taken) (c .match2 .rest))
+    (λ c. rw (c .match3 .keys1))
+    (λ c. rw (c .match3 .keys2))
+    (λ c. rw (c .match3 .keys3))
+    (λ c. rw (c .match3 .keys4))
+    (λ c. rw (c .match3 .keys5))
+    (λ c. rw (c .match3 .keys6))
+    (λ c. rw (c .match3 .keys7))
+    (λ c. otherwise set orderOf (12 ∷ 11 ∷ 10 ∷ 9 ∷ 8 ∷ 7 ∷ 6 ∷ []) 6 9 (omega arith) _ (c .before .if5 .left) (c .if6 .taken) (c .before .before .match3 .rest))
+    (λ c. otherwise close orderOf [] 15 2 (omega arith) _ (c .before .if6 .left) (c .if7 .taken) tt)
+    (λ c. otherwise 0 orderOf [] 6 0 tt _ (c .before .before .before .if3 .left) (c .if5 .taken) tt)
+    (λ c. otherwise 0 orderOf [] 17 0 tt _ (c .if7 .left) (c .before .before .before .before .if4 .taken) tt)
+    (λ c. rw (c .match4 .keys1))
+    (λ c. rw (c .match4 .keys2))
+    (λ c. rw (c .match4 .keys3))
+    (λ c. rw (c .match4 .keys4))
+    (λ c. rw (c .match4 .keys5))
+    (λ c. otherwise 0 orderOf (21 ∷ 20 ∷ 19 ∷ 18 ∷ 17 ∷ []) 17 5 (omega arith) _ (c .before .before .if4 .left) (c .before .if8 .taken) (c .match4 .rest))
+    (λ c. otherwise 0 orderOf [] 0 1 (omega arith) _ zero-le (c .if2 .taken) tt)
+    (λ c. past-working (λ (r : Row). r .order) _ (c .if8 .left))
     (λ c. past-working (λ (r : Row). r .order) _ (c .before .if1 .left))
     (λ c. past-working (λ (r : Row). r .order) _ (c .before .if1 .left)))

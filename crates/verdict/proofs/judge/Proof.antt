@@ -19,10 +19,10 @@ returns c =
 
 returns-2 : tie.Need-returns-2
 returns-2 c =
-    let file = c .before .before .before .before .before .before .before .before .args .file .now in
-    let r = c .before .before .before .before .before .before .refused in
-    let e = rw (c .before .from-offset .ensures, c .before .before .table .ensures, c .before .before .before .start2 .ensures) at (c .judge-records .ensures) in
-    e ∙ read-file file (sym (ap (λ (q : Refusal). q .number) (r .ensures)) ∙ c .before .before .before .before .if1 .left)
+    let file = c .before .before .before .before .before .before .before .before .before .before .args .file .now in
+    let r = c .before .before .before .before .before .before .before .before .refused in
+    let e = rw (c .before .from-offset .ensures, c .before .before .before .before .before .table .ensures, c .before .before .before .before .start2 .ensures) at (c .judge-under .ensures) in
+    e ∙ read-file file (sym (ap (λ (q : Refusal). q .number) (r .ensures)) ∙ c .before .before .before .before .before .before .if1 .left)
 
 pub judge-spec : {M : Type 1} → statement M
 judge-spec =
@@ -35,4 +35,5 @@ judge-spec =
     (λ _ _. tt)
     (λ _ _. tt)
     (λ _ _. tt)
+    (λ c κs. c .before .before .entries .ensures)
     returns-2)

@@ -1,15 +1,8 @@
--- `judge_records` meets its contract: the first state is listed, or it is not.
+-- `judge_records` meets its contract: the entries are the table's.
 -- Assumes nothing.
-use mathlib.Core.Path.{sym, _∙_}
 use Rattle.verdict.proofs.judge_records.Statement.{statement}
 use Rattle.verdict.proofs.judge_records.Tie as tie
 
 pub judge-records-spec : {M : Type 1} → statement M
 judge-records-spec =
-    tie.close
-    (tie.spec
-    (λ _ _. tt)
-    (λ c κs. (c .before .unlisted .ensures, c .if1 .taken))
-    (λ c. c .judge-unlisted .ensures (c .before .before .before .before .args .table))
-    (λ c κs. sym (c .before .unlisted .ensures) ∙ c .if1 .left)
-    (λ c. c .judge-listed .ensures))
+    tie.close (tie.spec (λ _ _. tt) (λ c κs. c .before .entries .ensures) (λ c. c .judge-under .ensures))
