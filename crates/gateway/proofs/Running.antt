@@ -31,20 +31,6 @@ by-guard :
 by-guard zero next s rest = refl
 by-guard (suc k) next s rest = refl
 
--- the outcome of one record alone is the answer to it
-alone :
-    (k : ℕ) (next s : State)
-    → (let o = after k s (record { count = 0; number = 0; state = next }) in record { number = o .number; rule = 0; state = o .state })
-    ≡ answer k next s
-alone zero next s = refl
-alone (suc k) next s = refl
-
-pub one-record :
-    (t : Table) (s : State) (a b c d : ℕ)
-    → (let o = run t s (recordsIn (a ∷ b ∷ c ∷ d ∷ [])) in record { number = o .number; rule = 0; state = o .state })
-    ≡ judged t s (recordOf a b c d)
-one-record t s a b c d = let r = recordOf a b c d in alone (guard t s r) (led s r) s
-
 -- record by record is the run over what the records mean, from any state
 pub one-by-one :
     (t : Table) (s : State) (l : List ℕ) → brokenRule t ≡ 0 → advancing t s l ≡ run t s (recordsIn l)

@@ -1,7 +1,10 @@
--- Document 01, "Numbers for what is refused": one record's four bytes on any given state and table, and a part's records one by one.
+-- Document 01, "Numbers for what is refused": one record's four bytes on any given state and table, a part's records one by one, and a
+-- block of records at once.
 -- Assumes nothing.
+use mathlib.Core.Bool.{cond}
 use mathlib.Core.List.{List, [], _∷_}
 use Prim.Native.Nat.{ℕ}
+use lib.Dec.{eqb}
 use Rattle.limits.specs.declared.Table.{Table}
 use Rattle.limits.specs.Rules.{brokenRule}
 use Rattle.shift.specs.declared.State.{State}
@@ -9,6 +12,7 @@ use Rattle.shift.specs.declared.Answer.{Answer}
 use Rattle.shift.specs.Answers.{judged, admitting}
 use Rattle.shift.specs.Runs.{Outcome, after}
 use Rattle.stepfile.specs.Records.{recordOf}
+use Rattle.verdict.specs.declared.Verdict.{Verdict}
 
 -- 4, with the rule, comes before all else
 unfoldable pub advancedOn : Table → State → ℕ → ℕ → ℕ → ℕ → Answer
@@ -24,3 +28,9 @@ advancing t s (a ∷ b ∷ c ∷ []) = record { count = 0; number = 0; state = s
 advancing t s (a ∷ b ∷ c ∷ d ∷ rest) =
     let x = advancedOn t s a b c d in
     after (x .number) s (advancing t (x .state) rest)
+
+-- a block is its records one by one: the index is how many were accepted, and 4 comes with the rule
+unfoldable pub blockOn : Table → State → List ℕ → Verdict
+blockOn t s l =
+    let o = advancing t s l in
+    record { number = o .number; rule = cond (eqb (o .number) 4) (brokenRule t) 0; index = o .count; state = o .state }
