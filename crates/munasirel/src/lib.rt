@@ -6,7 +6,7 @@ ghost use Rattle.line.specs.Laying.{laid, after};
 ghost use Rattle.transfer.specs.Join.{joined, bufferAfter};
 ghost use Rattle.verdict.specs.Verdicts.{verdictOf};
 ghost use Rattle.verdict.specs.Said.{lineFor};
-ghost use Rattle.gateway.specs.Advancing.{advancedOn};
+ghost use Rattle.gateway.specs.Advancing.{advancedOn, blockOn};
 ghost use Rattle.munasirel.specs.Calls.{wishOf, writtenFor, outAfter};
 use limits::Table;
 use shift::State;
@@ -104,7 +104,26 @@ pub extern "C" fn munasirel_advance(
 ) -> u8
     ensures { λ r. ⌜ (r ≡ advancedOn table (now (state .entry)) code middle low high .number) × (now (state .exit) ≡ advancedOn table (now (state .entry)) code middle low high .state) ⌝ }
 {
-    let a = gateway::advanced(*state, table, code, middle, low, high);
-    *state = a.state;
-    a.number
+    let record: [u8; 4] = [code, middle, low, high];
+    let verdict = gateway::advanced_block(*state, table, &record);
+    if verdict.number == 0 {
+        *state = verdict.state;
+    }
+    verdict.number
+}
+
+// The records of a block, one by one on the lent state, which is advanced by those accepted; `accepted` counts them.
+#[no_mangle]
+pub extern "C" fn munasirel_advance_block(
+    state: &mut State,
+    table: Table,
+    records: &[u8],
+    accepted: &mut usize,
+) -> u8
+    ensures { λ r. ⌜ (r ≡ blockOn table (now (state .entry)) (now (records .entry)) .number) × (now (state .exit) ≡ blockOn table (now (state .entry)) (now (records .entry)) .state) × (now (accepted .exit) ≡ blockOn table (now (state .entry)) (now (records .entry)) .index) ⌝ }
+{
+    let verdict = gateway::advanced_block(*state, table, records);
+    *state = verdict.state;
+    *accepted = verdict.index;
+    verdict.number
 }
