@@ -54,7 +54,10 @@ module _ (t : Table) (s : State) (a b c d : ℕ) (l : List ℕ) where
       let there : 4 * suc (o .count) ≡ suc (suc (suc (suc (4 * o .count)))) = omega arith in
       record {
         accepted = rw (there, e, h .accepted);
-        refused = λ n. let q = h .refused n in let w = q .0 in (omega arith, rw there (simp towards-suc (simp towards-suc at (q .1))));
+        refused = λ n.
+            let q = h .refused n in
+            let w = q .0 in
+            (omega arith, rw there (simp towards-suc (simp towards-suc at (q .1))));
         whole = λ z. let w = h .whole z in omega arith;
       }
   goes-on (suc k) o e h =
@@ -108,8 +111,8 @@ module _
 
   pub a-block-is-answered-in-the-document's-words : BlockAnswered table state records (v .number) (v .index) (v .state)
   a-block-is-answered-in-the-document's-words =
-      subst (λ (w : Verdict). BlockAnswered table state records (w .number) (w .index) (w .state)) (sym call) (where-a-block-stops table state records)
+      subst (λ (w : Verdict). BlockAnswered table state records (w .number) (w .index) (w .state)) (sym call)
+      (where-a-block-stops table state records)
 
   pub a-block-names-the-first-broken-rule : 4 ≤ length records → Ruled table v
-  a-block-names-the-first-broken-rule h =
-      subst (Ruled table) (sym call) (ruled table state records h)
+  a-block-names-the-first-broken-rule h = subst (Ruled table) (sym call) (ruled table state records h)

@@ -11,13 +11,11 @@ use lib.ListN.{length}
 use Rattle.limits.specs.declared.Table.{Table}
 use Rattle.limits.specs.Rules.{brokenRule}
 use Rattle.shift.specs.declared.State.{State}
-use Rattle.shift.specs.declared.Answer.{Answer}
 use Rattle.shift.specs.Answers.{guard, led, answer, judged, admitting}
 use Rattle.shift.specs.Runs.{Outcome, after, run}
 use Rattle.shift.proofs.AnswerLaws.{breaks}
 use Rattle.promises.proofs.Runs.{resumed, joined}
 use Rattle.stepfile.specs.Records.{recordOf, recordsIn}
-use Rattle.verdict.specs.declared.Verdict.{Verdict}
 use Rattle.verdict.specs.Verdicts.{ofRun}
 use Rattle.verdict.proofs.Verdicts.{outcome}
 use Rattle.gateway.specs.Advancing.{advancedOn, advancing, blockOn}
@@ -28,7 +26,7 @@ pub a-block-is-its-records-one-by-one : (t : Table) (s : State) (l : List ℕ) �
 unfolding blockOn
 a-block-is-its-records-one-by-one t s l = refl
 
--- ---- what the code answers, by the table
+-- ---- what is answered, by the table
 
 no-rule : (b : Bool) → cond {A = ℕ} b 0 0 ≡ 0
 no-rule true = refl
@@ -55,8 +53,7 @@ not-admitted t s [] n h = absurd (omega arith)
 not-admitted t s (a ∷ []) n h = absurd (omega arith)
 not-admitted t s (a ∷ b ∷ []) n h = absurd (omega arith)
 not-admitted t s (a ∷ b ∷ c ∷ []) n h = absurd (omega arith)
-not-admitted t s (a ∷ b ∷ c ∷ d ∷ l) n h =
-    rw (← breaks (brokenRule t) (judged t s (recordOf a b c d)) s n)
+not-admitted t s (a ∷ b ∷ c ∷ d ∷ l) n h = rw (← breaks (brokenRule t) (judged t s (recordOf a b c d)) s n)
 
 -- a block of one record is the answer to it
 of-one :
@@ -74,8 +71,7 @@ pub a-block-of-one-record :
     → (let v = blockOn t s (a ∷ b ∷ c ∷ d ∷ []) in record { number = v .number; rule = v .rule; state = v .state })
     ≡ advancedOn t s a b c d
 unfolding blockOn advancedOn
-a-block-of-one-record t s a b c d =
-    let r = recordOf a b c d in of-one (brokenRule t) (guard t s r) (led s r) s
+a-block-of-one-record t s a b c d = let r = recordOf a b c d in of-one (brokenRule t) (guard t s r) (led s r) s
 
 -- ---- a block cut in two behind a record: the first part's outcome where it is refused, else the second's from the state that the
 -- first leads to, with the counts added

@@ -15,9 +15,12 @@ use denote.Ref.{now}
 use denote.Triple.Entry.{Args, Res}
 use denote.Triple.Clauses.{AtExit}
 use Rattle.checks.specs.Determined.{Determined, DeterminedLent}
+use Rattle.shift.specs.declared.State.{State}
 use Rattle.shift.specs.declared.Answer.{Answer}
-use Rattle.gateway.specs.Advancing.{advancedOn}
+use Rattle.verdict.specs.declared.Verdict.{Verdict}
+use Rattle.gateway.specs.Advancing.{advancedOn, blockOn}
 use Rattle.munasirel.proofs.munasirel_advance as advance
+use Rattle.munasirel.proofs.munasirel_advance_block as advance-block
 use Rattle.munasirel.proofs.munasirel_judge.Reads as judge-reads
 use Rattle.munasirel.proofs.munasirel_admit.Reads as admit-reads
 use Rattle.munasirel.proofs.munasirel_table.Reads as table-reads
@@ -58,8 +61,8 @@ munasirel-write κs a x y at at′ p q = (
   both (p .4 ∙ sym (q .4)) (both (p .1 ∙ sym (q .1)) (both (p .2 ∙ sym (q .2)) (p .3 ∙ sym (q .3)))),
 )
 
--- ---- `munasirel_advance` is walked by hand, so that no `Reads` is made of it: its clause as a plain claim, and that in every model
--- the contract has this claim
+-- ---- `munasirel_advance` and `munasirel_advance_block` are walked by hand, so that no `Reads` is made of them: the clause of each as
+-- a plain claim, and that in every model the contract has this claim
 abbrev answered : (κs : Lfts 1) → Args advance.signature κs → Answer
 answered κs a = advancedOn (a .1 .0) (now (a .0)) (a .1 .1 .0) (a .1 .1 .1 .0) (a .1 .1 .1 .1 .0) (a .1 .1 .1 .1 .1 .0)
 
@@ -75,3 +78,21 @@ claimed 𝓤 H A mem run κs a r at = refl
 -- the state
 pub munasirel-advance : DeterminedLent (λ κs at. now (at .0)) Advanced
 munasirel-advance κs a x y at at′ p q = (p .0 ∙ sym (q .0), p .1 ∙ sym (q .1))
+
+abbrev judged : (κs : Lfts 3) → Args advance-block.signature κs → Verdict
+judged κs a = blockOn (a .1 .0) (now (a .0)) (now (a .1 .1 .0))
+
+abbrev pub AdvancedBlock :
+    (κs : Lfts 3) → Args advance-block.signature κs → Res advance-block.signature κs → AtExit advance-block.ended κs → Type 0
+AdvancedBlock κs a r at =
+    (r ≡ judged κs a .number) × (now (at .0) ≡ judged κs a .state) × (now (at .1 .1 .1 .0) ≡ judged κs a .index)
+
+pub claimed-block :
+    {M : Type 1} (𝓤 : URA M) (H : Heap 𝓤) (A : Atoms 𝓤) (mem : Memory → SProp 𝓤) (run : Routine → Fun 𝓤) (κs : Lfts 3)
+    (a : Args advance-block.signature κs) (r : Res advance-block.signature κs) (at : AtExit advance-block.ended κs)
+    → advance-block.clauses 𝓤 H A mem run κs a .ensures tt r at ≡ fact 𝓤 (AdvancedBlock κs a r at)
+claimed-block 𝓤 H A mem run κs a r at = refl
+
+-- the state and the count
+pub munasirel-advance-block : DeterminedLent {L = State × ℕ} (λ κs at. (now (at .0), now (at .1 .1 .1 .0))) AdvancedBlock
+munasirel-advance-block κs a x y at at′ p q = (p .0 ∙ sym (q .0), both (p .1 ∙ sym (q .1)) (p .2 ∙ sym (q .2)))
