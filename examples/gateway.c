@@ -3,7 +3,8 @@
  *     gateway FILE FILE
  *
  * For each vehicle the parts are joined in a buffer of its own, the file is judged, and the line of its verdict is printed. Then a
- * running judge for each vehicle is advanced by one record at a time, the two in turns, and its end is held to the line.
+ * running judge for each vehicle is advanced by a block of records at a time, the two in turns, and its end is held to the line.
+ * Where records come in singly, munasirel_advance takes the four bytes of one.
  * The status is 0 where both agree with their lines, 1 where one does not, 2 where it is not given two files that it can read, and
  * 3 where the output can not be written.
  */
@@ -90,15 +91,18 @@ static void judge(struct vehicle *v)
     }
 }
 
-/* Advances the running judge by its next record; returns 0 where there is none, or one was refused. */
-static int advance(struct vehicle *v)
+/* Advances a vehicle's running judge by its next block, of three records or of what is left; returns 0 where there is none, or a
+ * record was refused. The records of a block before the refused one are accepted, and the state is the one after them. */
+static int advance(int i)
 {
+    struct vehicle *v = &vehicles[i];
     if (v->number != 0 || v->accepted == v->records)
         return 0;
-    const uint8_t *record = v->buffer + u32_at(v->buffer + 4) + 4 * v->accepted;
-    v->number = munasirel_advance(&v->state, v->table, record[0], record[1], record[2], record[3]);
-    if (v->number == 0)
-        v->accepted++;
+    const uint8_t *block = v->buffer + u32_at(v->buffer + 4) + 4 * v->accepted;
+    size_t size = smaller(3, v->records - v->accepted), accepted;
+    v->number = munasirel_advance_block(&v->state, v->table, block, 4 * size, &accepted);
+    v->accepted += accepted;
+    printf("vehicle %d, a block of %zu: number %u, %zu accepted\n", i + 1, size, (unsigned)v->number, accepted);
     return 1;
 }
 
@@ -137,11 +141,13 @@ int main(int count, char **names)
         judge(&vehicles[i]);
     }
     int more = 1;
-    while (more)
-        more = advance(&vehicles[0]) | advance(&vehicles[1]);
+    while (more) {
+        more = advance(0);
+        more |= advance(1);
+    }
     int same = 1;
     for (int i = 0; i < 2; i++) {
-        printf("vehicle %d, record by record: ", i + 1);
+        printf("vehicle %d, block by block: ", i + 1);
         same &= agrees(&vehicles[i]);
     }
     if (fflush(stdout) || ferror(stdout)) {

@@ -5,7 +5,8 @@
  *
  * Every pointer must be valid, aligned as its type asks and not NULL, even where the length behind it is 0. What a call writes must
  * not overlap anything else that the call is given. With that, every input is allowed: what is wrong is refused by a number.
- * A refused call changes no byte of a buffer, no count of bytes held and no state.
+ * A refused call changes no byte of a buffer, no count of bytes held and no state, except that munasirel_advance_block has advanced
+ * the state by the records before the refused one.
  */
 #ifndef MUNASIREL_H
 #define MUNASIREL_H
@@ -170,6 +171,18 @@ uint8_t munasirel_write(munasirel_limits table, uint8_t with_table, const uint8_
  * Returns 0, or the number that refuses the record: 4, 5, 6, 7, then 8, 9 or 10; for a tick 4, 5, 6, 7, 13, 12, 11, tested in this
  * order. */
 uint8_t munasirel_advance(munasirel_state *state, munasirel_limits table, uint8_t code, uint8_t middle, uint8_t low, uint8_t high);
+
+/* Advances a running judge by the records of a block, one after the other, up to the first that is refused: as munasirel_advance on
+ * each in turn would, but the table is tested once.
+ *   state                     is advanced where it stands, by the records before a refused one. Any state may be given
+ *   table                     the limits to judge under
+ *   records, records_length   the block's bytes, any number of them: four a record, as in a step file. One to three bytes left over
+ *                             behind the last whole record are not looked at
+ *   accepted                  is set to how many records were accepted, which is the index in the block of the refused one
+ * Returns 0, or the number of the refused record, tested in the order of munasirel_advance and of each record before the next: so 4
+ * refuses the first. A block without a whole record is accepted under any table. */
+uint8_t munasirel_advance_block(munasirel_state *state, munasirel_limits table, const uint8_t *records, size_t records_length,
+                                size_t *accepted);
 
 #ifdef __cplusplus
 }
