@@ -511,7 +511,8 @@ static void writing(void)
     codes[0] = 14, writes_all("2 before 5", &normal, 0, -9, many);
 }
 
-/* ---- munasirel_advance. A state is written clock, box, phase, phase time, stage, stage time, request time, failed phase. */
+/* ---- munasirel_advance and munasirel_advance_block. A state is written clock, box, phase, phase time, stage, stage time, request
+ * time, failed phase. */
 #define S(...) ((munasirel_state){__VA_ARGS__})
 
 static int same_state(const munasirel_state *a, const munasirel_state *b)
@@ -521,6 +522,38 @@ static int same_state(const munasirel_state *a, const munasirel_state *b)
            a->failed_phase == b->failed_phase;
 }
 
+/* The block of so many records of the list, from a place on; it is made where a file would be. */
+static void cut(size_t from, size_t count)
+{
+    made_length = 0;
+    for (size_t i = from; i < from + count; i++) {
+        put(codes[i], 2);
+        put(amounts[i], 2);
+    }
+}
+
+static void make_block(const char *text)
+{
+    list(text);
+    cut(0, steps);
+}
+
+/* The block made. */
+static void blocks(const char *name, munasirel_limits table, munasirel_state from, unsigned want, size_t want_accepted,
+                   munasirel_state to)
+{
+    size_t odd = SIZE_MAX - 77;
+    fresh();
+    munasirel_state *state = lend(&from, sizeof from);
+    uint8_t *records = lend(made, made_length);
+    size_t *accepted = lend(&odd, sizeof odd);
+    check("block", name, "number", munasirel_advance_block(state, table, records, made_length, accepted) == want);
+    check("block", name, "count", *accepted == want_accepted);
+    check("block", name, "state", same_state(state, &to));
+    check("block", name, "bytes", guarded() && kept(records, 0));
+}
+
+/* A single record, by itself, as a block, and in a block before a record of code 0 and one byte. */
 static void advances(const char *name, munasirel_limits table, munasirel_state from, unsigned code, unsigned middle,
                      unsigned amount, unsigned want, munasirel_state to)
 {
@@ -531,6 +564,10 @@ static void advances(const char *name, munasirel_limits table, munasirel_state f
     check("advance", name, "number", number == want);
     check("advance", name, "state", same_state(state, &to));
     check("advance", name, "bytes", guarded());
+    made_length = 0, put(code, 1), put(middle, 1), put(amount, 2);
+    blocks(name, table, from, want, want == 0, to);
+    put(0, 5);
+    blocks(name, table, from, want == 0 ? 5 : want, want == 0, to);
 }
 
 static void takes(const char *name, munasirel_state from, unsigned code, unsigned amount, munasirel_state to)
@@ -543,7 +580,38 @@ static void refuses(const char *name, munasirel_state from, unsigned code, unsig
     advances(name, normal, from, code, 0, amount, want, from);
 }
 
-/* The steps one after the other, with the phase and the box after each. */
+/* Where single calls from a state come to over the first so many records of the list, up to the first that is refused. */
+struct ended { unsigned number; size_t accepted; munasirel_state state; };
+
+static struct ended one_by_one(munasirel_limits table, munasirel_state from, size_t count)
+{
+    struct ended end = {0, 0, from};
+    for (size_t i = 0; end.number == 0 && i < count; i++) {
+        end.number = munasirel_advance(&end.state, table, codes[i], 0, (uint8_t)(amounts[i] % 256), (uint8_t)(amounts[i] / 256));
+        end.accepted += end.number == 0;
+    }
+    return end;
+}
+
+/* The list cut in blocks, up to the first that is refused: after each as after single calls. */
+static struct ended cuts(const char *name, munasirel_limits table, munasirel_state from)
+{
+    static const size_t sizes[] = {1, 2, 3, 5, 7};
+    struct ended end = {0, 0, from};
+    for (size_t i = 0; i < sizeof sizes / sizeof *sizes; i++) {
+        end = (struct ended){0, 0, from};
+        for (size_t at = 0; end.number == 0 && at < steps; at += sizes[i]) {
+            size_t count = at + sizes[i] < steps ? sizes[i] : steps - at;
+            struct ended single = one_by_one(table, from, at + count);
+            cut(at, count);
+            blocks(name, table, end.state, single.number, single.accepted - at, single.state);
+            end = single;
+        }
+    }
+    return end;
+}
+
+/* The steps one after the other, with the phase and the box after each; then in blocks. */
 static void walks(const char *name, munasirel_state from, const char *text, const uint8_t *phases, const char *boxes,
                   munasirel_state to)
 {
@@ -558,6 +626,8 @@ static void walks(const char *name, munasirel_state from, const char *text, cons
     check("advance", name, "numbers, phases or boxes", good && strlen(boxes) == steps);
     check("advance", name, "end", same_state(state, &to));
     check("advance", name, "bytes", guarded());
+    cuts(name, normal, from);
+    cut(0, steps), blocks(name, normal, from, 0, steps, to);
 }
 
 static void advancing_runs(void)
@@ -727,6 +797,108 @@ static void advancing_steps(void)
     refuses("13 before 12 and 11", late, 12, 1, 13);
 }
 
+/* The steps in blocks from the start state; their end is the line of their file. */
+static void cuts_file(munasirel_limits table, const char *text)
+{
+    char line[MUNASIREL_LINE_ROOM];
+    list(text);
+    struct ended end = cuts(text, table, S(0));
+    snprintf(line, sizeof line, "%s %zu %u %u %u %u\n", end.number == 0 ? "accepted" : "refused", end.accepted, end.number,
+             (unsigned)end.state.clock, (unsigned)end.state.phase, (unsigned)end.state.gear_box);
+    make_list(&table);
+    lines_in(text, line, sizeof line);
+}
+
+/* Bytes behind the block, which would be a wrong record if there were more of them. */
+static void leave_over(size_t count)
+{
+    static const uint8_t wrong[] = {14, 1, 1};
+    memcpy(made + made_length, wrong, sizeof wrong);
+    made_length += count;
+}
+
+static void advancing_blocks(void)
+{
+    const munasirel_state rest = S(0), odd = S(1, 2, 24, 3, 6, 4, 5, 255), ticked = S(7, 0, 0, 0, 0, 0, 0, 0);
+    const munasirel_state shifted = S(410, 1, 0, 410, 0, 410, 0, 0), k11 = S(410, 1, 23, 410, 0, 410, 410, 19);
+    const munasirel_state requested = S(7, 0, 1, 7, 1, 7, 7, 0);
+    const munasirel_state late = S(4294901755, 1, 23, 1, 0, 2, 3, 4), latest = S(4294967295, 1, 23, 1, 0, 2, 3, 4);
+    const munasirel_limits bad = with(17, 1404);
+    make_block(K1), blocks("K1", normal, rest, 0, 12, shifted);
+    make_block(K11), blocks("K11", normal, rest, 7, 19, k11);
+    cut(12, 8), blocks("K11 from its thirteenth record on", normal, shifted, 7, 7, k11);
+    make_block("1 4 7 t150 9"), blocks("K5", normal, rest, 9, 4, S(150, 0, 1, 0, 5, 0, 0, 0));
+    make_block("2 1 4"), blocks("8 at the first", normal, rest, 8, 0, rest);
+    make_block("t7 14 1"), blocks("5 in the middle", normal, rest, 5, 1, ticked);
+    make_block("t7 t0 1"), blocks("6 in the middle", normal, rest, 6, 1, ticked);
+    make_block("t7 1 4"), made[9] = 1, blocks("6, a middle byte of the last", normal, rest, 6, 2, requested);
+    make_block("t7 1 1 14"), blocks("7 before a later 5", normal, rest, 7, 2, requested);
+    make_block("1 t3 t2"), blocks("the channel limit by two ticks", normal, rest, 0, 3, S(5, 0, 1, 0, 1, 0, 0, 0));
+    make_block("1 t3 t2 t1 4"), blocks("12 by three ticks", normal, rest, 12, 3, S(5, 0, 1, 0, 1, 0, 0, 0));
+    make_block("1 4 7 t151 t4"), blocks("the phase limit by two ticks", normal, rest, 0, 5, S(155, 0, 1, 0, 5, 0, 0, 0));
+    make_block("1 4 7 t151 t4 t1"), blocks("11 by three ticks", normal, rest, 11, 5, S(155, 0, 1, 0, 5, 0, 0, 0));
+    make_block("t5 t65535"), blocks("the clock's end by two ticks", normal, late, 0, 2, latest);
+    make_block("t5 t65535 t1"), blocks("13 by three ticks", normal, late, 13, 2, latest);
+    make_block("1 t6"), blocks("12 under a looser table", with(0, 6), rest, 0, 2, S(6, 0, 1, 0, 1, 0, 0, 0));
+    make_block("1 t5"), blocks("12 under a tighter table", with(0, 4), rest, 12, 1, S(0, 0, 1, 0, 1, 0, 0, 0));
+
+    /* The number of each code with the amount 0, at rest in neutral; then a run that has all thirteen. */
+    static const uint8_t number[] = {5, 0, 8, 8, 7, 7, 7, 7, 7, 7, 7, 7, 6, 7, 5, 5};
+    for (uint8_t code = 0; code < sizeof number; code++) {
+        make_block("t7 1"), made[4] = code;
+        blocks("every code", normal, rest, number[code], code == 1 ? 2 : 1, code == 1 ? requested : ticked);
+    }
+    make_block("1 4 7 t151 9 4 5 8 4 5 8 4 6 10 13 2 4 5 8 4 5 8 4 5 8 4 5 8 11 3");
+    blocks("all thirteen steps", normal, rest, 0, 30, S(151, 1, 17, 151, 1, 151, 151, 0));
+
+    /* A table that is not admitted, and a state that is none. */
+    make_block(K1), blocks("4", bad, rest, 4, 0, rest);
+    make_block("1"), blocks("4, one record", with(3, 0), rest, 4, 0, rest);
+    make_block("14 t0"), made[1] = 1, blocks("4 before 5, 6 and 7", bad, odd, 4, 0, odd);
+    make_block("14 1"), made[1] = 1, blocks("5 before 6 and 7", normal, odd, 5, 0, odd);
+    make_block("t0 14"), blocks("6 before 7", normal, odd, 6, 0, odd);
+    make_block("t1 14"), blocks("7 before a later 5, no state", normal, odd, 7, 0, odd);
+    blocks("7, phase 24", normal, S(1, 0, 24, 1, 0, 1, 0, 0), 7, 0, S(1, 0, 24, 1, 0, 1, 0, 0));
+    blocks("7, stage 6", normal, S(1, 0, 0, 1, 6, 1, 0, 0), 7, 0, S(1, 0, 0, 1, 6, 1, 0, 0));
+    blocks("7, box 2", normal, S(1, 2, 0, 1, 0, 1, 0, 0), 7, 0, S(1, 2, 0, 1, 0, 1, 0, 0));
+
+    /* Bytes that are no whole record, by themselves and behind records. */
+    for (size_t count = 0; count < 4; count++) {
+        made_length = 0, leave_over(count);
+        blocks("no record", normal, shifted, 0, 0, shifted);
+        blocks("no record, a bad table", bad, shifted, 0, 0, shifted);
+        blocks("no record, no state", normal, odd, 0, 0, odd);
+        blocks("no record, a bad table and no state", with(0, 0), odd, 0, 0, odd);
+        make_block(K1), leave_over(count), blocks("left over", normal, rest, 0, 12, shifted);
+        blocks("left over, a bad table", bad, rest, 4, 0, rest);
+        make_block("t7 4"), leave_over(count), blocks("left over behind a refused record", normal, rest, 7, 1, ticked);
+        make_block("t7 4"), made_length = 4 + count, blocks("left over of a wrong record", normal, rest, 0, 1, ticked);
+    }
+
+    /* A block may be longer than any file. */
+    ticks(MUNASIREL_MOST_RECORDS + 1, 65535), cut(0, steps);
+    blocks("16,373 ticks", normal, rest, 0, 16373, S(1073004555, 0, 0, 0, 0, 0, 0, 0));
+    blocks("13 after 16,000 ticks", normal, S(3246407295, 1, 22, 9, 0, 9, 8, 0), 13, 16000, S(4294967295, 1, 22, 9, 0, 9, 8, 0));
+
+    cuts_file(normal, K1);
+    cuts_file(with(17, 1405), K1);
+    cuts_file(normal, K11);
+    cuts_file(normal, "1 t6");
+    cuts_file(with(0, 6), "1 t6");
+    cuts_file(normal, "1 t5 4 t101");
+    cuts_file(normal, "1 4 7 t150 9");
+    cuts_file(normal, "1 4 7 t151 9");
+    cuts_file(normal, "1 4 7 t156");
+    cuts_file(normal, "2");
+    cuts_file(normal, "1 1");
+    cuts_file(normal, "1 4 6");
+    cuts_file(normal, WOULD_NOT_CLOSE " t9 13 3");
+    cuts_file(normal, WOULD_NOT_CLOSE " 13 1");
+    cuts_file(normal, WOULD_NOT_CLOSE " 13 13");
+    cuts_file(normal, "1 4 5 8 4 5 8 11 2 4 7 t251 9 4 t150 5 8 4 5 8 4 5 8 4 5 8 11 3 4 5 8 4 5 8 11 14");
+    cuts_file(normal, "t1 t2 t3 t4 t5 t6 t0");
+}
+
 /* ---- munasirel_m9_start, _advance, _reading. Both engines are run on the same records; what is expected of the flags comes from the
  * manual's events. */
 static int same_variables(const munasirel_m9_variables *a, const munasirel_m9_variables *b)
@@ -866,6 +1038,7 @@ int main(void)
     writing();
     advancing_runs();
     advancing_steps();
+    advancing_blocks();
     manual();
     printf("%u passed, %u failed\n", passed, failed);
     return failed == 0 ? 0 : 1;
