@@ -2,12 +2,6 @@
 #include "reference.h"
 #include "rules.h"
 
-static int is_listed(const munasirel_state *state)
-{
-    return state->phase <= MUNASIREL_PHASE_ERROR && state->stage <= MUNASIREL_STAGE_WAITING &&
-           state->gear_box <= MUNASIREL_BOX_IN_GEAR;
-}
-
 uint8_t reference_advance(munasirel_state *state, const uint16_t table[LIMITS], const uint8_t record[4])
 {
     uint8_t code;

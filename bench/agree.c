@@ -1,22 +1,23 @@
 /* Holds the library and the C version to each other: on the files named, on files made by chance, half of them damaged, and on
- * single records at any state and under any table.
+ * single records and blocks of 0 to 300 bytes at any state and under any table. The records of the files named come in blocks too.
  *
  *     agree FILE..
  *
- * The status is 0 where nothing differs, and every number and rule that can come up did. */
+ * The status is 0 where nothing differs, and every number, rule and kind of block that can come up did. */
 #include <stdio.h>
 #include <string.h>
 
 #include "reference.h"
 #include "rules.h"
 
-enum { MADE_FILES = 20000, MADE_RECORDS = 200000 };
+enum { MADE_FILES = 20000, MADE_RECORDS = 200000, MADE_BLOCKS = 40000, LONGEST_BLOCK = 300 };
 
 static uint8_t file[MUNASIREL_LONGEST_FILE + 1];
 static size_t file_length;
 
-/* How often each number and rule came up. */
-static unsigned numbers_of_files[14], numbers_of_records[14], rules[16];
+/* How often each number, rule and kind of block came up. */
+enum { ACCEPTED, REFUSED_FIRST, REFUSED_LATER, BAD_TABLE, EMPTY, KINDS }; /* a block without a whole record is empty */
+static unsigned numbers_of_files[14], numbers_of_records[14], numbers_of_blocks[14], rules[16], kinds[KINDS];
 
 /* ---- the comparison */
 static munasirel_limits limits_in(const uint16_t table[LIMITS])
@@ -45,14 +46,41 @@ static int same_verdict(void)
     return number == verdict.number && rule == verdict.rule && same_line(MUNASIREL_LINE_ROOM) && same_line(20);
 }
 
+static int same_state(const munasirel_state *a, const munasirel_state *b)
+{
+    return a->clock == b->clock && a->gear_box == b->gear_box && a->phase == b->phase && a->phase_time == b->phase_time &&
+           a->stage == b->stage && a->stage_time == b->stage_time && a->request_time == b->request_time &&
+           a->failed_phase == b->failed_phase;
+}
+
 static int same_advance(const munasirel_state *state, const uint16_t table[LIMITS], const uint8_t record[4])
 {
     munasirel_state library = *state, c = *state;
     uint8_t number = munasirel_advance(&library, limits_in(table), record[0], record[1], record[2], record[3]);
     numbers_of_records[number]++;
-    return number == reference_advance(&c, table, record) && library.clock == c.clock && library.gear_box == c.gear_box &&
-           library.phase == c.phase && library.phase_time == c.phase_time && library.stage == c.stage &&
-           library.stage_time == c.stage_time && library.request_time == c.request_time && library.failed_phase == c.failed_phase;
+    return number == reference_advance(&c, table, record) && same_state(&library, &c);
+}
+
+static int kind_of(uint8_t number, size_t length, size_t accepted)
+{
+    if (length < 4)
+        return EMPTY;
+    if (number == MUNASIREL_TABLE_NOT_ADMITTED)
+        return BAD_TABLE;
+    return number == 0 ? ACCEPTED : accepted == 0 ? REFUSED_FIRST : REFUSED_LATER;
+}
+
+/* Advances the state, and sets how many records are accepted. */
+static int same_block(munasirel_state *state, const uint16_t table[LIMITS], const uint8_t *records, size_t length, size_t *accepted)
+{
+    munasirel_state c = *state;
+    size_t c_accepted = SIZE_MAX - 1;
+    *accepted = SIZE_MAX;
+    uint8_t number = munasirel_advance_block(state, limits_in(table), records, length, accepted);
+    numbers_of_blocks[number]++;
+    kinds[kind_of(number, length, *accepted)]++;
+    return number == reference_advance_block(&c, table, records, length, &c_accepted) && *accepted == c_accepted &&
+           same_state(state, &c);
 }
 
 /* ---- chance, the same in every run */
@@ -172,7 +200,48 @@ static void make_state(munasirel_state *state)
     state->failed_phase = below(256);
 }
 
-/* ---- the runs: each answers how often the two differ */
+/* A block of any length: steps that, but for a few, are allowed one after the other from the state on, up to one for which none was
+ * found, and bytes left over. Returns its length. */
+static size_t make_block(munasirel_state state, const uint16_t table[LIMITS], uint8_t block[LONGEST_BLOCK])
+{
+    size_t length = below(LONGEST_BLOCK + 1);
+    int most = 50;
+    for (size_t at = 0; at < length; at++)
+        block[at] = below(256);
+    for (size_t at = 0; at + 4 <= length; at += 4) {
+        int tries = once_in(100) ? 1 : most;
+        do
+            make_record(&state, table, block + at);
+        while (reference_advance(&state, table, block + at) != 0 && --tries > 0);
+        if (tries == 0)
+            most = 1;
+    }
+    return length;
+}
+
+/* ---- the runs: each answers how often the two differ, but the first whether they agree */
+static int same_in_blocks(void)
+{
+    uint8_t number = munasirel_judge(file, file_length);
+    munasirel_limits limits = munasirel_table(file, file_length);
+    munasirel_state state = {0};
+    uint16_t table[LIMITS];
+    if (number >= MUNASIREL_TOO_SHORT && number <= MUNASIREL_TABLE_NOT_ADMITTED)
+        return 1;
+    memcpy(table, &limits, sizeof table);
+    for (size_t at = file[4]; at < file_length;) {
+        size_t length = below(LONGEST_BLOCK + 1), accepted;
+        if (length > file_length - at)
+            length = file_length - at;
+        if (!same_block(&state, table, file + at, length, &accepted))
+            return 0;
+        if (accepted < length / 4)
+            break;
+        at += 4 * accepted;
+    }
+    return 1;
+}
+
 static unsigned compare_named(int count, char **names)
 {
     unsigned differ = 0;
@@ -181,6 +250,9 @@ static unsigned compare_named(int count, char **names)
         file_length = from ? fread(file, 1, sizeof file, from) : 0;
         if (!from || ferror(from) || !same_verdict()) {
             printf("%s: the verdicts differ, or it can not be read\n", names[i]);
+            differ++;
+        } else if (!same_in_blocks()) {
+            printf("%s: the answers to blocks of it differ\n", names[i]);
             differ++;
         }
         if (from)
@@ -222,24 +294,49 @@ static unsigned compare_records(void)
     return differ;
 }
 
-/* The numbers and rules that never came up; a file never gives 10, and would have to be longer to give 13. */
+static unsigned compare_blocks(void)
+{
+    unsigned differ = 0;
+    for (int i = 0; i < MADE_BLOCKS; i++) {
+        munasirel_state state;
+        uint16_t table[LIMITS];
+        uint8_t block[LONGEST_BLOCK];
+        size_t accepted;
+        make_state(&state);
+        make_table(table);
+        size_t length = make_block(state, table, block);
+        if (!same_block(&state, table, block, length, &accepted)) {
+            printf("block %d made by chance: the answers differ\n", i);
+            differ++;
+        }
+    }
+    return differ;
+}
+
+/* The numbers, rules and kinds that never came up; a file never gives 10, and would have to be longer to give 13. */
 static unsigned never_came_up(void)
 {
     unsigned never = 0;
     for (unsigned i = 0; i < 14; i++) {
         never += i != 10 && i != 13 && numbers_of_files[i] == 0;
         never += (i == 0 || i >= 4) && numbers_of_records[i] == 0;
+        never += (i == 0 || i >= 4) && numbers_of_blocks[i] == 0;
     }
     for (unsigned i = 0; i < 16; i++)
         never += rules[i] == 0;
+    for (unsigned i = 0; i < KINDS; i++)
+        never += kinds[i] == 0;
     return never;
 }
 
 int main(int words, char **word)
 {
-    unsigned differ = compare_named(words - 1, word + 1) + compare_made() + compare_records();
+    unsigned differ = compare_named(words - 1, word + 1) + compare_made() + compare_records() + compare_blocks();
     unsigned never = never_came_up();
-    printf("Held to each other on %d files, %d made by chance and %d single records: %u differ, %u cases never came up.\n",
-           words - 1, MADE_FILES, MADE_RECORDS, differ, never);
+    printf("Blocks, with those of the files: %u accepted, %u refused at the first record, %u later, %u with 4, %u empty.\n",
+           kinds[ACCEPTED], kinds[REFUSED_FIRST], kinds[REFUSED_LATER], kinds[BAD_TABLE], kinds[EMPTY]);
+    printf("Held to each other on %d files, %d made by chance, %d single records and %d blocks: ", words - 1, MADE_FILES,
+           MADE_RECORDS, MADE_BLOCKS);
+    printf("%u differ, %u cases never came up.\n", differ, never);
     return differ == 0 && never == 0 ? 0 : 1;
 }

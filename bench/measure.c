@@ -1,6 +1,7 @@
 /* Works on a step file by the library and by the C version, to have its instructions counted or its time taken.
  *
- *     measure CALL TIMES FILE    makes a call so many times; the running judges advance over all the file's records
+ *     measure CALL TIMES FILE    makes a call so many times; the running judges advance over all the file's records, by one of them
+ *                                a call, or by N as library-block-N or C-block-N
  *     measure FILE               prints the nanoseconds a record of judging, the best and the median of the library, then of C
  *
  * The status is the number that refuses the file, or 0. */
@@ -15,6 +16,7 @@
 static uint8_t file[MUNASIREL_LONGEST_FILE];
 static size_t file_length;
 static const uint8_t *records;
+static size_t block; /* the records of a block */
 
 /* ---- the calls */
 static uint8_t library_judge(void)
@@ -63,13 +65,60 @@ static uint8_t c_advance(void)
     return number;
 }
 
+/* The bytes of the block that begins here; the last may be shorter. */
+static size_t block_length(const uint8_t *from)
+{
+    size_t left = (size_t)(file + file_length - from);
+    return left < 4 * block ? left : 4 * block;
+}
+
+static uint8_t library_block(void)
+{
+    munasirel_limits table = munasirel_table(file, file_length);
+    munasirel_state state = {0};
+    uint8_t number = 0;
+    size_t length, accepted;
+    for (const uint8_t *from = records; number == 0 && (length = block_length(from)) > 0; from += length)
+        number = munasirel_advance_block(&state, table, from, length, &accepted);
+    return number;
+}
+
+static uint8_t c_block(void)
+{
+    munasirel_limits limits = munasirel_table(file, file_length);
+    uint16_t table[18];
+    munasirel_state state = {0};
+    uint8_t number = 0;
+    size_t length, accepted;
+    memcpy(table, &limits, sizeof table);
+    for (const uint8_t *from = records; number == 0 && (length = block_length(from)) > 0; from += length)
+        number = reference_advance_block(&state, table, from, length, &accepted);
+    return number;
+}
+
+/* Behind a name that ends in '-' stands the number of records. */
 static const struct {
     const char *name;
     uint8_t (*call)(void);
 } calls[] = {
-    {"library-judge", library_judge}, {"library-line", library_line}, {"library-advance", library_advance},
-    {"C-judge", c_judge},             {"C-line", c_line},             {"C-advance", c_advance},
+    {"library-judge", library_judge},     {"C-judge", c_judge},
+    {"library-line", library_line},       {"C-line", c_line},
+    {"library-advance", library_advance}, {"C-advance", c_advance},
+    {"library-block-", library_block},    {"C-block-", c_block},
 };
+
+/* Whether a word names a call; the records of a block are taken from it. */
+static int names(const char *word, const char *name)
+{
+    size_t length = strlen(name);
+    if (name[length - 1] != '-')
+        return strcmp(word, name) == 0;
+    if (strlen(word) <= length || memcmp(word, name, length) != 0)
+        return 0;
+    int count = atoi(word + length);
+    block = count > 0 ? (size_t)count : 0;
+    return block > 0;
+}
 
 static uint8_t repeat(uint8_t (*call)(void), int times)
 {
@@ -135,7 +184,7 @@ int main(int words, char **word)
     if (words == 2)
         return take_times();
     for (size_t i = 0; i < sizeof calls / sizeof *calls; i++)
-        if (strcmp(calls[i].name, word[1]) == 0)
+        if (names(word[1], calls[i].name))
             return repeat(calls[i].call, atoi(word[2]));
     return 2;
 }

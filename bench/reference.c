@@ -35,17 +35,6 @@ static void read_table(const uint8_t *file, uint16_t table[LIMITS])
         table[i] = entries == 0 ? default_table[i] : u16_at(file + 12 + 2 * i);
 }
 
-static uint8_t judge_record(munasirel_state *state, const uint16_t table[LIMITS], const uint8_t record[4])
-{
-    uint8_t code;
-    uint16_t amount;
-    uint8_t number = read_record(record, &code, &amount);
-
-    if (number != 0)
-        return number;
-    return step(state, table, code, amount);
-}
-
 struct verdict reference_judge(const uint8_t *file, size_t file_length)
 {
     munasirel_state state = {0};

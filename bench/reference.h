@@ -23,4 +23,9 @@ uint8_t reference_line(const uint8_t *file, size_t file_length, uint8_t *out, si
 /* Advances a running judge by a record's four bytes, on any state and table; a refusal keeps the state. */
 uint8_t reference_advance(munasirel_state *state, const uint16_t table[18], const uint8_t record[4]);
 
+/* Advances a running judge by the records of a block up to the first that is refused, and sets how many were accepted; the table is
+ * tested once, and not where there is no whole record. */
+uint8_t reference_advance_block(munasirel_state *state, const uint16_t table[18], const uint8_t *records, size_t length,
+                                size_t *accepted);
+
 #endif

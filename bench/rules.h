@@ -1,5 +1,5 @@
 /* The rules of document 01 in straightforward C: the limit table, the phases, the thirteen steps, what a record's bytes mean.
- * Judge and running judge each compile their own copy. */
+ * The judge, the running judge and its blocks each compile their own copy. */
 #ifndef RULES_H
 #define RULES_H
 
@@ -269,7 +269,13 @@ static inline uint8_t step(munasirel_state *state, const uint16_t table[LIMITS],
     }
 }
 
-/* ---- a record */
+/* ---- any state, and a record */
+static inline int is_listed(const munasirel_state *state)
+{
+    return state->phase <= MUNASIREL_PHASE_ERROR && state->stage <= MUNASIREL_STAGE_WAITING &&
+           state->gear_box <= MUNASIREL_BOX_IN_GEAR;
+}
+
 static inline uint16_t u16_at(const uint8_t *bytes)
 {
     return (uint16_t)(bytes[0] | bytes[1] << 8);
@@ -285,6 +291,18 @@ static inline uint8_t read_record(const uint8_t record[4], uint8_t *code, uint16
     if (record[1] != 0 || (*code == MUNASIREL_STEP_TICK) != (*amount != 0))
         return MUNASIREL_BAD_AMOUNT;
     return MUNASIREL_ACCEPTED;
+}
+
+/* A record's four bytes on a listed state, under an admitted table. */
+static inline uint8_t judge_record(munasirel_state *state, const uint16_t table[LIMITS], const uint8_t record[4])
+{
+    uint8_t code;
+    uint16_t amount;
+    uint8_t number = read_record(record, &code, &amount);
+
+    if (number != 0)
+        return number;
+    return step(state, table, code, amount);
 }
 
 #endif

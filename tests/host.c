@@ -120,6 +120,15 @@ static void put(size_t number, unsigned size)
         made[made_length++] = (uint8_t)number;
 }
 
+/* So many records of the list, from a place on. */
+static void put_records(size_t from, size_t count)
+{
+    for (size_t i = from; i < from + count; i++) {
+        put(codes[i], 2);
+        put(amounts[i], 2);
+    }
+}
+
 /* The file of the list, with a table or, where there is none, without. */
 static void make_list(const munasirel_limits *table)
 {
@@ -134,10 +143,7 @@ static void make_list(const munasirel_limits *table)
         memcpy(entries, table, sizeof entries);
     for (unsigned i = 0; i < k; i++)
         put(entries[i], 2);
-    for (size_t i = 0; i < steps; i++) {
-        put(codes[i], 2);
-        put(amounts[i], 2);
-    }
+    put_records(0, steps);
 }
 
 static void make(const char *text)
@@ -522,14 +528,11 @@ static int same_state(const munasirel_state *a, const munasirel_state *b)
            a->failed_phase == b->failed_phase;
 }
 
-/* The block of so many records of the list, from a place on; it is made where a file would be. */
+/* A block of so many records of the list, from a place on; it is made where a file would be. */
 static void cut(size_t from, size_t count)
 {
     made_length = 0;
-    for (size_t i = from; i < from + count; i++) {
-        put(codes[i], 2);
-        put(amounts[i], 2);
-    }
+    put_records(from, count);
 }
 
 static void make_block(const char *text)
@@ -538,7 +541,7 @@ static void make_block(const char *text)
     cut(0, steps);
 }
 
-/* The block made. */
+/* Advances by the block made. */
 static void blocks(const char *name, munasirel_limits table, munasirel_state from, unsigned want, size_t want_accepted,
                    munasirel_state to)
 {
