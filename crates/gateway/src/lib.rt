@@ -10,8 +10,17 @@ use verdict::Verdict;
 pub fn advanced(state: State, table: Table, code: u8, middle: u8, low: u8, high: u8) -> Answer
     ensures { λ r. ⌜ r ≡ advancedOn table state code middle low high ⌝ }
 {
+    // A block of one record, written out: a function that both calls for C share would not be laid into them (docs/DECISIONS.md).
     let record: [u8; 4] = [code, middle, low, high];
-    let verdict = advanced_block(state, table, &record);
+    let broken = table.broken_rule();
+    if broken != 0 {
+        return Answer {
+            number: 4,
+            rule: broken,
+            state,
+        };
+    }
+    let verdict = verdict::judge_records(state, table, &record);
     let state = verdict.state;
     Answer {
         number: verdict.number,

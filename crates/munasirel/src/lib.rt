@@ -104,12 +104,11 @@ pub extern "C" fn munasirel_advance(
 ) -> u8
     ensures { λ r. ⌜ (r ≡ advancedOn table (now (state .entry)) code middle low high .number) × (now (state .exit) ≡ advancedOn table (now (state .entry)) code middle low high .state) ⌝ }
 {
-    let record: [u8; 4] = [code, middle, low, high];
-    let verdict = gateway::advanced_block(*state, table, &record);
-    if verdict.number == 0 {
-        *state = verdict.state;
+    let a = gateway::advanced(*state, table, code, middle, low, high);
+    if a.number == 0 {
+        *state = a.state;
     }
-    verdict.number
+    a.number
 }
 
 // The records of a block, one by one on the lent state, which is advanced by those accepted; `accepted` counts them.
