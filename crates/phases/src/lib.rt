@@ -21,7 +21,7 @@ pub const RELEASE: u8 = 6;
 // The three choices below are columns of the wall sheet, docs/PHASES.md, case by case and in its order. What is empty there is 0
 // here. A comment behind a case is what the sheet has in its first column besides the number.
 
-// The order of a phase. The working phases stand by kinds of shift, here and below: no path leads from one kind to another.
+// The order of a phase. The working phases stand by kinds of shift.
 pub fn order_of(phase: u8) -> u8
     ensures { λ r. ⌜ r ≡ orderOf phase ⌝ }
 {
@@ -63,22 +63,20 @@ pub fn order_of(phase: u8) -> u8
     }
 }
 
-// The next phase when a phase's order is taken.
+// The next phase when a phase's order is taken. The working phases stand in three ranges: in a finer or a coarser order of ranges a
+// step takes longer (docs/DECISIONS.md).
 pub fn next_of(phase: u8) -> u8
     ensures { λ r. ⌜ r ≡ nextOf phase ⌝ }
 {
     match phase {
         0..=0 => 0, // at rest
         1..=21 => match phase {
-            1..=5 => match phase {
+            1..=14 => match phase {
                 1 => 3, // (from neutral)
                 2 => 4,
                 3 => 22,
                 4 => 5,
                 5 => 22,
-                _ => 0,
-            },
-            6..=16 => match phase {
                 6 => 8, // (gear to gear)
                 7 => 9,
                 8 => 10,
@@ -88,9 +86,9 @@ pub fn next_of(phase: u8) -> u8
                 12 => 22,
                 13 => 15, // 13 / 14
                 14 => 16, // 13 / 14
-                15 | 16 => 22,
                 _ => 0,
             },
+            15 | 16 => 22,
             17..=21 => match phase {
                 17 => 19, // (to neutral)
                 18 => 20,

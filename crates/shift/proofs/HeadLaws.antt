@@ -57,16 +57,20 @@ left-over : (h : ℕ) → NoneOf arms h → 1 ≤ h → h < 14 → h ≡ 12
 left-over h r l m =
     eqb→eq h 12 (holds (eqb h 12) (otherwise 1 (λ k. cond (eqb k 12) 1 0) arms 1 13 (omega arith) h l m r))
 
--- ---- of a number: no tick, and none of the other steps
-module _ (head amount : ℕ) (no-tick : ¬ (head ≡ 12)) where
-  pub with-amount : ¬ (amount ≡ 0) → wrongBy (head % 256) ≡ reading (head % 256) (head / 256) amount
-  with-amount some =
-      no-step-read (head % 256) (head / 256) amount (λ k f. some (f .plain (λ e. let m = f .middle-byte in no-tick (omega arith))))
+-- ---- of a number
+module _ (head amount : ℕ) where
+  -- with an amount it is a tick, or no step
+  pub no-tick : ¬ (head ≡ 12) → ¬ (amount ≡ 0) → wrongBy (head % 256) ≡ reading (head % 256) (head / 256) amount
+  no-tick n some =
+      no-step-read (head % 256) (head / 256) amount (λ k f. some (f .plain (λ e. let m = f .middle-byte in n (omega arith))))
 
+  -- without one it is one of the arms, or no step
   pub no-arm : amount ≡ 0 → NoneOf arms head → wrongBy (head % 256) ≡ reading (head % 256) (head / 256) amount
   no-arm none r =
       no-step-read (head % 256) (head / 256) amount
       (λ k f.
       let m = f .middle-byte in
       let c = a-code (head % 256) k in
-      no-tick (left-over head r (omega arith) (omega arith)))
+      let twelve = left-over head r (omega arith) (omega arith) in
+      let some = f .tick (omega arith) .0 in
+      omega arith)

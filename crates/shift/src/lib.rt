@@ -68,11 +68,11 @@ impl Step {
     pub fn of_head(head: u32, amount: u32) -> Reading
         ensures { λ r. ⌜ r ≡ reading (head % 256) (head / 256) amount ⌝ }
     {
-        // Most records are ticks: one with a good middle byte is asked for first.
-        if head == 12 {
-            return ticking(0, amount);
-        }
+        // Most records are ticks: what has an amount is asked for first.
         if amount != 0 {
+            if head == 12 {
+                return ticking(0, amount);
+            }
             return wrong(head);
         }
         match head {
