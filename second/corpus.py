@@ -57,6 +57,7 @@ KINDS = {
     7: Kind("join", ("held", "offset"), "bc", join),
     8: Kind("write", ("wish", "table", "amounts"), "bc", write),
     9: Kind("manual", ("table",), "b", manual, unit=files.RECORD.size),
+    10: Kind("block", ("table", "state"), "b", files.block),
 }
 NUMBERS = {kind.name: number for number, kind in KINDS.items()}
 

@@ -4,14 +4,14 @@ from collections import Counter
 from typing import Dict, NamedTuple, Sequence, Set
 
 import m9
-from files import NO_ROOM, fours, judged, line, read, record
+from files import NO_ROOM, RECORD, fours, judged, line, read, record
 from places import HOW, PLACES, place_of
 from records import LISTED, UNLISTED
 from rules import (
     ASK_CLUTCH, BOXES, DEVICE_PHASES, ENGINE_PHASES, ERROR, GOOD, IN_GEAR, NEUTRAL, NO_SUCH_CODE, NOT_ADMITTED,
     NOT_ALLOWED, ORDERS, PAST_CLOCK, PAST_PHASE_LIMIT, PAST_STAGE_LIMIT, PHASES, RELEASE, REQUESTS, RESET, SENT, SET,
-    START, SYNC, TAKE, TICK, TOO_EARLY, TOO_LATE, WORKING, WRONG_AMOUNT, WRONG_BOX, ZERO_TORQUE, earliest_clock,
-    latest_clocks, slacks,
+    START, STAGES, SYNC, TAKE, TICK, TOO_EARLY, TOO_LATE, WORKING, WRONG_AMOUNT, WRONG_BOX, ZERO_TORQUE, broken_rule,
+    earliest_clock, latest_clocks, slacks,
 )
 
 # No walk takes too late: rules 2 and 3 see to that. No file holds ticks enough to pass the last clock.
@@ -20,6 +20,8 @@ NEVER_IN_A_FILE = {TOO_LATE, PAST_CLOCK}
 STAGE_NAMES = "none", "sent", "working", "good", "failed", "waiting"
 GIVEN_NAMES = tuple(f"({name})" for name in STAGE_NAMES)
 ORDER_NAMES = tuple(order.name for order in ORDERS)
+# How many numbers are listed in these fields of a state.
+LISTED_NUMBERS = {"phase": ERROR + 1, "stage": len(STAGES), "box": len(BOXES)}
 ALL_RULES = set(range(1, 16))
 OTHER = "other"
 NO_CODES = (*UNLISTED, OTHER)
@@ -32,6 +34,12 @@ RESET_NUMBERS = 0, WRONG_AMOUNT, NOT_ALLOWED
 WAS_RESET = "reset"
 ERROR_COLUMNS = (*BOX_NAMES, WAS_RESET, *(f"then {code}" for code in REQUESTS))
 KEPT, PASSED, REFUSED = "just kept", "passed by one", "refused by it"
+# The outcomes of blocks, where the refused record of one stands, and the code that bytes left over begin with.
+NO_RECORD, ACCEPTED, IS_REFUSED = "no record", "accepted", "refused"
+BAD_TABLE = ", bad table"
+OUTCOMES = NO_RECORD, NO_RECORD + BAD_TABLE, ACCEPTED, IS_REFUSED, IS_REFUSED + BAD_TABLE
+ALONE, FIRST, BETWEEN, LAST = "alone", "first", "between", "last"
+LISTED_LEFT, UNLISTED_LEFT = "a code left over", "no code left over"
 
 
 def reachable(phase):
@@ -49,9 +57,14 @@ def step_numbers(code):
     return {0, 4, 6, 7} | own
 
 
+def later_numbers(code):
+    """The numbers that a record can give behind an accepted one; that leads to a listed state, so a tick gives no 7."""
+    return step_numbers(code) - {NOT_ADMITTED} - ({NOT_ALLOWED} if code == TICK else set())
+
+
 def record_numbers(code):
-    """The numbers that a record can give in a file that is read; its states are all listed, so a tick gives no 7."""
-    return step_numbers(code) - {NOT_ADMITTED} - NEVER_IN_A_FILE - ({NOT_ALLOWED} if code == TICK else set())
+    """The numbers that a record can give in a file that is read; its states are all listed."""
+    return later_numbers(code) - NEVER_IN_A_FILE
 
 
 def manual_numbers(code):
@@ -133,6 +146,7 @@ GRIDS = {
         "join, held": {15},
         "write": {0, *range(2, 7), 15},
         "manual": {0, *range(4, 14)} - NEVER_IN_A_FILE,
+        "block": {0, *range(4, 14)},
     }),
     "rules": Grid("rules that each function gave, 0 for an admitted table, and the nearest tables", range(16), {
         "admit": {0} | ALL_RULES,
@@ -142,6 +156,7 @@ GRIDS = {
         "judge": ALL_RULES,
         "write": ALL_RULES,
         "manual": ALL_RULES,
+        "block": ALL_RULES,
         "broken by one": ALL_RULES,
         "just kept": ALL_RULES,
     }),
@@ -202,6 +217,21 @@ GRIDS = {
         "guards of Tick_Tock",
         (KEPT, PASSED, REFUSED),
         {deadline.label: {KEPT, PASSED, REFUSED} for deadline in m9.M9.deadlines},
+    ),
+    "block places": Grid(
+        "numbers of blocks, by the place of the refused record",
+        (ALONE, FIRST, BETWEEN, LAST),
+        {number: {ALONE, FIRST} | ({BETWEEN, LAST} if number > NOT_ADMITTED else set()) for number in range(4, 14)},
+    ),
+    "left over": Grid(
+        "blocks, by the bytes left over",
+        (*OUTCOMES, LISTED_LEFT, UNLISTED_LEFT),
+        {left: {*OUTCOMES} | ({LISTED_LEFT, UNLISTED_LEFT} if left else set()) for left in range(RECORD.size)},
+    ),
+    "unlisted": Grid(
+        "numbers of blocks on states that are not listed, by the field",
+        (NO_RECORD, NOT_ADMITTED, NO_SUCH_CODE, WRONG_AMOUNT, NOT_ALLOWED),
+        {field: {NO_RECORD, NOT_ADMITTED, NO_SUCH_CODE, WRONG_AMOUNT, NOT_ALLOWED} for field in LISTED_NUMBERS},
     ),
 }
 
@@ -382,6 +412,29 @@ def manual_marks(answer, table, records):
     yield from error_marks("place errors", accepted)
 
 
+def place_in(index, count):
+    """The place of a record among so many."""
+    if count == 1:
+        return ALONE
+    return FIRST if index == 0 else LAST if index == count - 1 else BETWEEN
+
+
+def block_marks(answer, table, state, records):
+    """The marks of a block."""
+    number, rule, accepted, _ = answer
+    yield from answer_marks("block", number, rule)
+    count, left = divmod(len(records), RECORD.size)
+    if number:
+        yield "block places", number, place_in(accepted, count)
+    outcome = NO_RECORD if not count else IS_REFUSED if number else ACCEPTED
+    yield "left over", left, outcome + (BAD_TABLE if broken_rule(table) else "")
+    if left and outcome == ACCEPTED:
+        yield "left over", left, LISTED_LEFT if records[-left] in LISTED else UNLISTED_LEFT
+    for field, listed in LISTED_NUMBERS.items():
+        if getattr(state, field) >= listed:
+            yield "unlisted", field, number if count else NO_RECORD
+
+
 MARKS = {
     "admit": admit_marks,
     "step": step_marks,
@@ -392,6 +445,7 @@ MARKS = {
     "join": join_marks,
     "write": write_marks,
     "manual": manual_marks,
+    "block": block_marks,
     "bad": lambda _: (),
 }
 

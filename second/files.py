@@ -93,6 +93,12 @@ def run(engine, start, table, records):
     return number, rule, accepted, reached
 
 
+def block(table, state, records):
+    """The running judge, a block of whole records a call: number, rule, records accepted and state."""
+    whole = records[:len(records) // RECORD.size * RECORD.size]
+    return run(step, state, table, whole)
+
+
 def judged(table, records):
     """Each record's number and the state after it, from the start state to the first that is refused."""
     state = START

@@ -3,6 +3,7 @@
 import random
 from itertools import islice
 
+import block_cases
 import file_cases
 import join_cases
 import manual_cases
@@ -10,7 +11,7 @@ import step_cases
 import write_cases
 from search import NotFound
 
-MAKERS = step_cases, file_cases, join_cases, write_cases, manual_cases
+MAKERS = step_cases, file_cases, join_cases, write_cases, manual_cases, block_cases
 
 
 def other_lengths(case):

@@ -4,7 +4,7 @@ from itertools import cycle
 
 import places
 from corpus import case_of
-from records import LISTED, any_record, bad_records, good_amount, packed_steps, tick_amount, unlisted_codes
+from records import LISTED, any_record, bad_records, good_amount, packed_pieces, tick_amount, unlisted_codes
 from rules import (
     ASK_CLUTCH, DEFAULT, DELIVER, DEVICE_FAILED, DEVICE_GOOD, ENGINE_WAITS, FINISH, GOOD, LONGEST_TICK, RAISE_ERROR,
     REQUESTS, RESET, SENT, TAKE, TICK, WORKING,
@@ -22,8 +22,7 @@ OTHERS_TRIED = 3
 
 def manual_case(table, *pieces):
     """The case of lists of steps and of record bytes."""
-    records = b"".join(piece if isinstance(piece, bytes) else packed_steps(piece) for piece in pieces)
-    return case_of("manual", table, records)
+    return case_of("manual", table, packed_pieces(*pieces))
 
 
 def steps_to(chance, table, ways):

@@ -14,6 +14,11 @@ def packed_steps(steps):
     return b"".join(RECORD.pack(code, 0, amount) for code, amount in steps)
 
 
+def packed_pieces(*pieces):
+    """The bytes of pieces that are lists of steps, or bytes already."""
+    return b"".join(piece if isinstance(piece, bytes) else packed_steps(piece) for piece in pieces)
+
+
 def unlisted_codes(chance):
     """Codes that are none: those at the ends, and one between."""
     return (*UNLISTED, chance.randint(max(LISTED) + 2, 254))

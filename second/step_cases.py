@@ -3,7 +3,7 @@
 from itertools import product
 
 from corpus import case_of
-from coverage import step_numbers
+from coverage import LISTED_NUMBERS, step_numbers
 from records import (
     EXTREME_AMOUNTS, LISTED, any_record, bad_amount, bad_records, good_amount, packed_steps, tick_amount,
     unlisted_code, unlisted_codes,
@@ -59,13 +59,9 @@ def allowing(chance, code, **named):
     return free_state(chance, **fields)
 
 
-# The least numbers that are not listed.
-LEAST_UNLISTED = {"phase": ERROR + 1, "stage": len(STAGES), "box": len(BOXES)}
-
-
 def unlisted(chance, state):
     """The state with a number in one of its fields that is not listed."""
-    field, least = chance.choice(list(LEAST_UNLISTED.items()))
+    field, least = chance.choice(list(LISTED_NUMBERS.items()))
     return state._replace(**{field: chance.randint(least, 255)})
 
 
@@ -145,7 +141,7 @@ def every_amount(chance):
 
 def every_unlisted_field(chance):
     """Every listed code on states that would allow it, but are not listed; the tick would pass the last clock too."""
-    for code, (field, least) in product(LISTED, LEAST_UNLISTED.items()):
+    for code, (field, least) in product(LISTED, LISTED_NUMBERS.items()):
         for value in (least, chance.randint(least, 255), 255):
             state = allowing(chance, code, clock=LAST_CLOCK, **{field: value})
             yield from both(good_table(chance), state, code, good_amount(chance, code))
@@ -153,7 +149,7 @@ def every_unlisted_field(chance):
 
 def neither_listed(chance):
     """Codes that are none on states that are not listed."""
-    for (field, least), code in product(LEAST_UNLISTED.items(), unlisted_codes(chance)):
+    for (field, least), code in product(LISTED_NUMBERS.items(), unlisted_codes(chance)):
         yield from both(good_table(chance), free_state(chance, **{field: least}), code, 0)
 
 
@@ -196,12 +192,12 @@ def refused_step(chance, table, code, number, any_amount):
 
 def not_allowing(state, code):
     """The state with a stage, a box or, for a request, a phase, one at a time, that doesn't allow the step."""
-    yield state._replace(stage=LEAST_UNLISTED["stage"])
-    yield state._replace(box=LEAST_UNLISTED["box"])
+    yield state._replace(stage=LISTED_NUMBERS["stage"])
+    yield state._replace(box=LISTED_NUMBERS["box"])
     _, stages = ALLOWED[code]
     yield from (state._replace(stage=stage) for stage in STAGES if stage not in stages)
     if code in REQUESTS:
-        yield from (state._replace(phase=phase) for phase in (*PHASES, DONE, ERROR, LEAST_UNLISTED["phase"]))
+        yield from (state._replace(phase=phase) for phase in (*PHASES, DONE, ERROR, LISTED_NUMBERS["phase"]))
 
 
 def two_refusals(chance):

@@ -10,14 +10,15 @@ from unittest.mock import patch
 
 import compare
 import generator
+from block_cases import refused_behind_ticks
 from corpus import case_of, worked
-from coverage import Coverage, marks, possible_cells
-from files import file_of, judge
+from coverage import Coverage, later_numbers, marks, possible_cells
+from files import block, file_of, judge
 from generator import cases
-from records import packed_steps
+from records import LISTED, packed_pieces, packed_steps
 from rules import DEFAULT, REQUESTS, START, State, broken_rule, slacks
 from search import MOST_TRIES, NotFound, first_found
-from tables import admitted_table, edge_tables
+from tables import admitted_table, edge_tables, good_table
 from test_files import WOULD_NOT_CLOSE, written
 from versions import Wrong, loaded
 from walks import ROUNDS, SHIFTS, lead, leads, mixed, timed, walks_through_errors
@@ -58,6 +59,13 @@ class Makers(unittest.TestCase):
         walks = list(walks_through_errors(self.chance, admitted_table))
         numbers = [judge(file_of(table, packed_steps(steps)))[0] for table, steps in walks]
         self.assertEqual([numbers.count(number) for number in (0, 8)], [26, 25])
+
+    def test_records_of_blocks_that_are_refused_behind_ticks(self):
+        for code in LISTED:
+            for number in later_numbers(code) - {0}:
+                table = good_table(self.chance)
+                state, ticks, four = refused_behind_ticks(self.chance, table, code, number)
+                self.assertEqual(block(table, state, packed_pieces(ticks, four))[:3], (number, 0, len(ticks)))
 
     def test_a_seed_makes_the_same_cases(self):
         first, again, other = (list(islice(cases(seed, 0), 200)) for seed in (7, 7, 8))
@@ -100,6 +108,24 @@ class TheCoverage(unittest.TestCase):
         self.assert_marked({("write", 0, 1), ("write", 0, 13)}, "write", 0, DEFAULT, [0, 0], b"\x01\x0d", bytes(20))
         self.assert_marked({("write", 5, 14)}, "write", 0, DEFAULT, [0, 0], b"\x0d\x0e", bytes(20))
         self.assert_marked({("write", 6, 13)}, "write", 0, DEFAULT, [1, 0], b"\x0d\x0e", bytes(20))
+
+    def test_blocks(self):
+        bad, shift = DEFAULT._replace(ChangeDL=1404), written(WOULD_NOT_CLOSE)[12:]
+        for given, cells in (
+            ((DEFAULT, START, shift), {("left over", 0, "accepted")}),
+            ((DEFAULT, START, shift + b"\x0d\xff"), {("left over", 2, "a code left over")}),
+            ((DEFAULT, START, shift + b"\x0e"), {("left over", 1, "no code left over")}),
+            ((DEFAULT, START, shift[4:]), {("block places", 7, "first"), ("left over", 0, "refused")}),
+            ((DEFAULT, START, shift + shift), {("block places", 7, "between")}),
+            ((DEFAULT, START, shift + bytes(5)), {("block places", 5, "last"), ("left over", 1, "refused")}),
+            ((DEFAULT, START, bytes(4)), {("block places", 5, "alone")}),
+            ((bad, START, shift), {("rules", "block", 14), ("block places", 4, "first")}),
+            ((bad, START, b"123"), {("numbers", "block", 0), ("left over", 3, "no record, bad table")}),
+            ((bad, State(stage=6), b"1234"), {("unlisted", "stage", 4), ("left over", 0, "refused, bad table")}),
+            ((DEFAULT, State(box=2), b""), {("unlisted", "box", "no record"), ("left over", 0, "no record")}),
+            ((DEFAULT, State(phase=24), shift), {("unlisted", "phase", 7)}),
+        ):
+            self.assert_marked(cells, "block", *given)
 
     def test_what_did_not_come_up_is_missing(self):
         coverage = Coverage()

@@ -3,7 +3,7 @@
 import unittest
 
 from corpus import Case, case_of, cases_in, packed, parts_of, worked
-from files import advance, fours, join, judge, lay_line, line, read, write
+from files import advance, block, fours, join, judge, lay_line, line, read, write
 from rules import DEFAULT, START, State
 
 K1 = "1 t5 4 t100 5 t5 8 4 t300 5 8 11"
@@ -111,6 +111,41 @@ class KnownRuns(unittest.TestCase):
         self.assert_run(asked, 0, 20, phase=20, box=1)
         self.assert_run(f"{asked} 4 5 8", 0, 23, phase=21, box=0)
         self.assert_run(f"{asked} 4 5 8 4 6 10 13 1", 0, 28, phase=1, box=0)
+
+
+class Blocks(unittest.TestCase):
+    RECORDS = written(K1)[12:]
+
+    def test_a_run_cut_in_two_blocks(self):
+        whole = judge(written(K1))
+        for place in range(0, len(self.RECORDS) + 1, 4):
+            first = block(DEFAULT, START, self.RECORDS[:place])
+            self.assertEqual(first[:3], (0, 0, place // 4))
+            second = block(DEFAULT, first[3], self.RECORDS[place:])
+            self.assertEqual((*second[:2], first[2] + second[2], second[3]), whole)
+
+    def test_what_is_left_over(self):
+        for left in range(4):
+            for byte in b"\x01\xff":
+                self.assertEqual(block(DEFAULT, START, self.RECORDS + bytes((byte,)) * left), judge(written(K1)))
+                self.assertEqual(block(DEFAULT, START, bytes((byte,)) * left), (0, 0, 0, START))
+
+    def test_the_state_before_the_refused_record(self):
+        for text, number, count in (("13 1", 7, 0), ("1 t6 4", 12, 1), ("1 t5 4 t101", 12, 3)):
+            *_, state = judge(written(" ".join(text.split()[:count])))
+            self.assertEqual(block(DEFAULT, START, written(text)[12:]), (number, 0, count, state))
+
+    def test_a_table_that_is_not_admitted(self):
+        table, unlisted = DEFAULT._replace(ChangeDL=1404), State(box=2)
+        for records in (b"", b"\xff" * 3):
+            self.assertEqual(block(table, unlisted, records), (0, 0, 0, unlisted))
+        for records in (b"\xff" * 4, self.RECORDS):
+            self.assertEqual(block(table, unlisted, records), (4, 14, 0, unlisted))
+
+    def test_a_state_that_is_not_listed(self):
+        for state in (State(phase=24), State(stage=6), State(box=2)):
+            for records, number in ((b"", 0), (self.RECORDS, 7), (b"\xff" * 8, 5), (b"\x01\1\0\0", 6)):
+                self.assertEqual(block(DEFAULT, state, records), (number, 0, 0, state))
 
 
 class Lines(unittest.TestCase):
@@ -237,9 +272,10 @@ class Corpus(unittest.TestCase):
             ("join", 1, 2, b"part", b"buffer"),
             ("write", 1, DEFAULT, [3, 4], b"codes", b"buffer"),
             ("manual", DEFAULT, b"12345678"),
+            ("block", DEFAULT, state, b"1234567"),
         ]
         cases = [case_of(*case) for case in given]
-        self.assertEqual([len(case.a) for case in cases], [36, 61, 60, 0, 0, 0, 16, 45, 36])
+        self.assertEqual([len(case.a) for case in cases], [36, 61, 60, 0, 0, 0, 16, 45, 36, 56])
         self.assertEqual([parts_of(case) for case in cases], [list(case[1:]) for case in given])
         self.assertEqual(list(cases_in(b"".join(map(packed, cases)))), cases)
 
@@ -258,6 +294,10 @@ class Corpus(unittest.TestCase):
             (case_of("manual", DEFAULT, b"\x0c\0\x07\0\x01\0\0\0\x0c\0\x02\0\x01\0\0\0"),
              f"manual 7 0 3 0101{'00' * 62} 9 7{' 0' * 32} 9 0 1 1 7 7 7 7 0 3 9 0 1 7 1 7 7 0"),
             (case_of("manual", DEFAULT, b"123"), "bad"),
+            (case_of("block", DEFAULT, START, b"\x01\0\0\0\x0c\0\x05\0\x0c"), "block 0 0 2 5 0 1 0 1 0 0 0"),
+            (case_of("block", DEFAULT, START, b"\x01\0\0\0\x0c\0\x06\0"), "block 12 0 1 0 0 1 0 1 0 0 0"),
+            (Case(10, bytes(55)), "bad"),
+            (Case(10, bytes(56), b"", b"x"), "bad"),
             (Case(1, bytes(35)), "bad"),
             (Case(8, bytes(38)), "bad"),
             (Case(5, b"", b"", b"x"), "bad"),
@@ -268,5 +308,5 @@ class Corpus(unittest.TestCase):
     def test_what_ends_a_run(self):
         good = case_of("admit", DEFAULT)
         too_long = bytes((4, 0, 0, 0, 0)) + (66_001).to_bytes(4, "little") + bytes(4 + 66_001)
-        for end in (b"\x01", packed(Case(10)), packed(Case(0)), packed(good)[:-1], too_long):
+        for end in (b"\x01", packed(Case(11)), packed(Case(0)), packed(good)[:-1], too_long):
             self.assertEqual(list(cases_in(packed(good) + end)), [good, None])

@@ -86,6 +86,87 @@ JUDGE = [
     ("the running judge admits any table", ADVANCED, f"number, state = {JUDGED}\n    return number, 0, state"),
 ]
 
+# The block call: its records, its number and rule, its count and its state.
+
+WHOLE, BLOCK = "records[:len(records) // RECORD.size * RECORD.size]", "    return run(step, state, table, whole)\n"
+NUMBER, RULE = "unreadable(*record(whole[:RECORD.size]))", "broken_rule(table)"
+LISTED_NUMBERS = {"phase": 24, "stage": 6, "box": 2}
+
+
+def block_first(condition, answer):
+    """A block that is answered so before a record is judged."""
+    return f"    if {condition}:\n        return {answer}, 0, state\n{BLOCK}"
+
+
+def block_by(engine):
+    """A block whose records are answered by this one by one."""
+    return BLOCK.replace("step", f"lambda table, state, code, amount, middle: {engine}")
+
+
+def block_gives(answer, begin="state"):
+    """A block that begins on this and gives this answer."""
+    return f"    number, rule, accepted, reached = run(step, {begin}, table, whole)\n    return {answer}\n"
+
+
+def off_listing():
+    """States that are not listed: 7 before 5 and 6, an empty block refused, the first record on them accepted."""
+    for field, count in LISTED_NUMBERS.items():
+        not_listed = f"state.{field} >= {count} and not {RULE}"
+        yield (f"7 before 5 and 6 in a block for a {field} that is not listed", BLOCK,
+               block_first(f"whole and {not_listed}", "7, 0"))
+        yield (f"7 for an empty block and a {field} that is not listed", BLOCK,
+               block_first(f"not whole and {not_listed}", "7, 0"))
+        yield (f"a block's first record on a {field} that is not listed", BLOCK,
+               block_gives("number, rule, accepted, reached if accepted else state",
+                           f"state._replace({field}=min(state.{field}, {count - 1}))"))
+
+
+BLOCKS = [
+    ("bytes left over in a block are a record", WHOLE, "records + bytes(-len(records) % RECORD.size)"),
+    ("three bytes left over in a block are a record", WHOLE,
+     f"records + bytes(1) if len(records) % RECORD.size == 3 else {WHOLE}"),
+    ("bytes left over stand before a block's records", WHOLE, "records[len(records) % RECORD.size:]"),
+    ("a block with bytes left over has no record", WHOLE, 'b"" if len(records) % RECORD.size else records'),
+    ("bytes left over refuse a block with 3", BLOCK, block_first("whole != records", "WRONG_LENGTH, 0")),
+    ("the last record of a block is left out", BLOCK, BLOCK.replace("whole", "whole[:-RECORD.size]")),
+    ("the first record of a block is left out", BLOCK, BLOCK.replace("whole", "whole[RECORD.size:]")),
+    ("only the first record of a block is judged", BLOCK, BLOCK.replace("whole", "whole[:RECORD.size]")),
+    ("a block has at most 32 records", BLOCK, BLOCK.replace("whole", "whole[:32 * RECORD.size]")),
+    ("a block has at most a file's records", BLOCK, BLOCK.replace("whole", "whole[:MOST_RECORDS * RECORD.size]")),
+    ("a block begins at the start state", BLOCK, BLOCK.replace("state", "START")),
+    ("a block under the default table", BLOCK, BLOCK.replace("table", "DEFAULT")),
+    ("a block under any table", BLOCK,
+     block_by(f"step(DEFAULT if {RULE} else table, state, code, amount, middle)")),
+    ("a block leaves the middle byte out", BLOCK, block_by("step(table, state, code, amount)")),
+    ("a block knows no reset", BLOCK,
+     block_by("(5, 0, state) if code == 13 else step(table, state, code, amount, middle)")),
+    ("4 for an empty block", BLOCK, block_first(RULE, f"NOT_ADMITTED, {RULE}")),
+    ("4 for a block of bytes left over alone", BLOCK, block_first(f"records and {RULE}", f"NOT_ADMITTED, {RULE}")),
+    ("no 4 for a block of one record", BLOCK, block_first(f"len(whole) == RECORD.size and {RULE}", "0, 0")),
+    ("4 after 5 and 6 for a block", BLOCK, block_first(f"whole and {NUMBER}", f"{NUMBER}, 0")),
+    ("4 after 7 for a block", BLOCK, block_first(f"whole and state.box > 1 and not {NUMBER}", "7, 0")),
+    ("4 without its rule for a block", BLOCK, block_gives("number, 0, accepted, reached")),
+    ("the rule is given for an empty block", BLOCK, block_first("not whole", f"0, {RULE}")),
+    *off_listing(),
+    ("the refused record of a block counts as accepted", BLOCK,
+     block_gives("number, rule, accepted + (number > 0), reached")),
+    ("every record of a block counts as accepted", BLOCK,
+     block_gives("number, rule, len(whole) // RECORD.size, reached")),
+    ("no record of a refused block counts as accepted", BLOCK,
+     block_gives("number, rule, 0 if number else accepted, reached")),
+    ("a block's count of 8 bits", BLOCK, block_gives("number, rule, accepted % 2**8, reached")),
+    ("a refused block leaves the state as it was", BLOCK,
+     block_gives("number, rule, accepted, state if number else reached")),
+    ("a refused block leaves the start state", BLOCK,
+     block_gives("number, rule, accepted, START if number else reached")),
+    ("a block leaves the state after its first record", BLOCK,
+     block_gives("number, rule, accepted, run(step, state, table, whole[:RECORD.size])[3]")),
+    ("a refused block leaves the state after the refused record", BLOCK,
+     "    from rules import after\n" + block_gives(
+         "number, rule, accepted, after(reached, *record(whole[RECORD.size * accepted:][:RECORD.size])[:2]) "
+         "if number > 6 else reached")),
+]
+
 # The line, and a text laid into a buffer.
 
 UNREAD, FEED = "number <= NOT_ADMITTED", "{state.box}\\n"
@@ -220,4 +301,4 @@ JOIN = [
     ("16 changes the buffer", DIFFERS, "return OVERLAP_DIFFERS, held, buffer[:offset] + part + buffer[end:]"),
 ]
 
-WRONG_FILES = [*READER, *JUDGE, *LINE, *WRITER, *JOIN]
+WRONG_FILES = [*READER, *JUDGE, *BLOCKS, *LINE, *WRITER, *JOIN]

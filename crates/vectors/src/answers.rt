@@ -11,6 +11,7 @@ use printing::number8;
 use shift::Answer;
 use stepfile::write::Wish;
 use stepfile::write::Written;
+use verdict::Verdict;
 
 pub(crate) fn admit(a: &[u8])
     requires { ⌜ 36 ≤ length (now a) ⌝ }
@@ -47,7 +48,10 @@ pub(crate) fn read(file: &[u8]) {
 }
 
 pub(crate) fn judge(file: &[u8]) {
-    let verdict = verdict::judge(file);
+    print_verdict(verdict::judge(file));
+}
+
+fn print_verdict(verdict: Verdict) {
     number8(verdict.number);
     number8(verdict.rule);
     number(verdict.index);
@@ -100,4 +104,10 @@ pub(crate) fn manual(a: &[u8], records: &[u8])
     requires { ⌜ 36 ≤ length (now a) ⌝ }
 {
     engines::print(table_at(a, 0), records);
+}
+
+pub(crate) fn block(a: &[u8], records: &[u8])
+    requires { ⌜ 56 ≤ length (now a) ⌝ }
+{
+    print_verdict(gateway::advanced_block(state_in(a), table_at(a, 0), records));
 }

@@ -12,9 +12,9 @@ use libc::STDOUT_FILENO;
 
 const END: u8 = 0;
 
-const NO_CASE: u8 = 10;
+const NO_CASE: u8 = 11;
 
-// A case's kind, 1 to 9, and the lengths of its fields; or that the input has ended, or that no case is there.
+// A case's kind, 1 to 10, and the lengths of its fields; or that the input has ended, or that no case is there.
 struct Head {
     kind: u8,
     a: usize,
@@ -60,7 +60,7 @@ fn head_of(bytes: &[u8]) -> Head
     let a = u32_at(bytes, 1);
     let b = u32_at(bytes, 5);
     let c = u32_at(bytes, 9);
-    if (kind < 1) | (9 < kind) | (66000 < a) | (66000 < b) | (66000 < c) {
+    if (kind < 1) | (10 < kind) | (66000 < a) | (66000 < b) | (66000 < c) {
         return without_fields(NO_CASE);
     }
     Head {
@@ -120,16 +120,18 @@ fn is_sized(kind: u8, a: usize, b: usize, c: usize) -> bool
         7 => a == 16,
         8 => (37 <= a) & (a <= 66000) & (a % 4 == 1),
         9 => (a == 36) & (b % 4 == 0) & (c == 0),
+        10 => (a == 56) & (c == 0),
         _ => false,
     }
 }
 
 // Each word stands at eight times its kind.
 fn word(kind: u8) {
-    if 9 < kind {
+    if 10 < kind {
         return;
     }
-    let words = b"        admit   step    advance read    judge   line    join    write   manual  ";
+    let words =
+        b"        admit   step    advance read    judge   line    join    write   manual  block   ";
     let from = 8 * (kind as usize);
     write_part(words, from, from + letters(kind));
 }
@@ -149,6 +151,7 @@ fn letters(kind: u8) -> usize
         5 => 5,
         8 => 5,
         9 => 6,
+        10 => 5,
         _ => 4,
     }
 }
@@ -167,6 +170,7 @@ fn print_rest(kind: u8, a: &[u8], b: &[u8], c: &mut [u8])
         7 => answers::join(a, b, c),
         8 => answers::write(a, b, c),
         9 => answers::manual(a, b),
+        10 => answers::block(a, b),
         _ => {}
     }
 }

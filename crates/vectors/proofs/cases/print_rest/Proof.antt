@@ -57,6 +57,13 @@ manual-requires c κs =
     let f = s .args in
     alone (length (now (f .a))) (length (now (f .b)) % 4) (length (now (f .c))) 36 (rw (c .match .keys9) at (s .pre))
 
+block-requires : tie.Need-block-requires
+block-requires c κs =
+    let s = c .before .before .before .before in
+    let f = s .args in
+    let a = length (now (f .a)) in
+    reaches a 56 (left (eqb a 56) (eqb (length (now (f .c))) 0) (rw (c .match .keys10) at (s .pre)))
+
 pub print-rest-spec : {M : Type 1} → statement M
 print-rest-spec =
     tie.close
@@ -70,6 +77,7 @@ print-rest-spec =
     join-requires
     write-requires
     manual-requires
+    block-requires
     (λ c. tt)
     (λ c. tt)
     (λ c. tt)
@@ -80,6 +88,7 @@ print-rest-spec =
     (λ c. search needs)
     (λ c. tt)
     (λ c. search needs)
+    (λ c. tt)
     (λ c. tt)
     (λ c. tt)
     (λ c. tt))
