@@ -159,33 +159,17 @@ late-is-refused device channel s now =
     never-0 (leb now 4294967295) (leb (cond (limited s) now 0) (stageEnd device channel s))
 
 -- a step that enters no phase keeps the phase and its end
-module _ (s : State) where
-  pub keeps-phase : (x : Step) → enters x ≡ false → effect s x .phase ≡ s .phase
-  keeps-phase FromNeutral e = absurd (subst T e tt)
-  keeps-phase GearToGear e = absurd (subst T e tt)
-  keeps-phase ToNeutral e = absurd (subst T e tt)
-  keeps-phase Deliver e = refl
-  keeps-phase DeviceGood e = refl
-  keeps-phase DeviceFailed e = refl
-  keeps-phase EngineWaits e = refl
-  keeps-phase Take e = absurd (subst T e tt)
-  keeps-phase AskClutch e = absurd (subst T e tt)
-  keeps-phase RaiseError e = absurd (subst T e tt)
-  keeps-phase Finish e = absurd (subst T e tt)
-  keeps-phase (Tick n) e = refl
-  keeps-phase Reset e = absurd (subst T e tt)
-
-  pub keeps-end : (t : Table) (x : Step) → enters x ≡ false → phaseEnd t (effect s x) ≡ phaseEnd t s
-  keeps-end t FromNeutral e = absurd (subst T e tt)
-  keeps-end t GearToGear e = absurd (subst T e tt)
-  keeps-end t ToNeutral e = absurd (subst T e tt)
-  keeps-end t Deliver e = refl
-  keeps-end t DeviceGood e = refl
-  keeps-end t DeviceFailed e = refl
-  keeps-end t EngineWaits e = refl
-  keeps-end t Take e = absurd (subst T e tt)
-  keeps-end t AskClutch e = absurd (subst T e tt)
-  keeps-end t RaiseError e = absurd (subst T e tt)
-  keeps-end t Finish e = absurd (subst T e tt)
-  keeps-end t (Tick n) e = refl
-  keeps-end t Reset e = absurd (subst T e tt)
+pub keeps : (t : Table) (s : State) (x : Step) → enters x ≡ false → (effect s x .phase ≡ s .phase) × (phaseEnd t (effect s x) ≡ phaseEnd t s)
+keeps t s FromNeutral e = absurd (subst T e tt)
+keeps t s GearToGear e = absurd (subst T e tt)
+keeps t s ToNeutral e = absurd (subst T e tt)
+keeps t s Deliver e = (refl, refl)
+keeps t s DeviceGood e = (refl, refl)
+keeps t s DeviceFailed e = (refl, refl)
+keeps t s EngineWaits e = (refl, refl)
+keeps t s Take e = absurd (subst T e tt)
+keeps t s AskClutch e = absurd (subst T e tt)
+keeps t s RaiseError e = absurd (subst T e tt)
+keeps t s Finish e = absurd (subst T e tt)
+keeps t s (Tick n) e = (refl, refl)
+keeps t s Reset e = absurd (subst T e tt)

@@ -1,6 +1,6 @@
 -- Where the judge's loop stands: what holds before every record, that a refused one ends it and an accepted one leads on.
 -- Assumes nothing.
-use mathlib.Core.Path.{_≡_, refl, sym, ap, subst, _∙_}
+use mathlib.Core.Path.{_≡_, refl, sym, ap, _∙_}
 use mathlib.Core.Logic.{⊎-elim}
 use mathlib.Core.List.{List, [], _∷_}
 use Prim.Native.Nat.{ℕ, _+_, _*_, _≤_, _<_}
@@ -11,7 +11,6 @@ use lib.ListN.{length}
 use Rattle.checks.specs.Checks.{first}
 use Rattle.checks.proofs.Checks.{Holds}
 use Rattle.limits.specs.declared.Table.{Table}
-use Rattle.limits.specs.Limits.{entries}
 use Rattle.phases.specs.Phases.{orderOf, deviceLimit}
 use Rattle.shift.specs.declared.State.{State}
 use Rattle.shift.specs.declared.Answer.{Answer}

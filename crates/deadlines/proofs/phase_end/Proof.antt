@@ -1,6 +1,6 @@
 -- `phase_end` meets its contract: the limit of the phase in a shift, elsewhere the largest clock.
 -- Assumes nothing.
-use mathlib.Core.Path.{_≡_, sym, ap, _∙_}
+use mathlib.Core.Path.{sym, ap, _∙_}
 use mathlib.Core.Bool.{cond}
 use Prim.Native.Nat.{_+_}
 use lib.ListN.{getD}

@@ -11,15 +11,12 @@ use Rattle.limits.specs.Limits.{entries, tableOf}
 use Rattle.phases.specs.Phases.{orderOf, deviceLimit}
 use Rattle.shift.specs.declared.State.{State}
 use Rattle.shift.specs.declared.Answer.{Answer}
-use Rattle.shift.specs.declared.Step.the-variants.{Tick}
-use Rattle.shift.specs.declared.Reading.{Reading}
 use Rattle.shift.specs.declared.Reading.the-variants.{Means}
 use Rattle.shift.specs.Steps.{allowed, ticked, effect}
 use Rattle.shift.specs.Answers.{listed}
 use Rattle.shift.proofs.ListedLaws.{led-to}
 use Rattle.deadlines.specs.Deadlines.{phaseEnd, deadline, lateBy}
-use Rattle.deadlines.proofs.DeadlineLaws.{fits, keeps-phase, keeps-end}
-use Rattle.stepfile.proofs.RecordLaws.{recordAt}
+use Rattle.deadlines.proofs.DeadlineLaws.{fits, keeps}
 use Rattle.verdict.specs.Verdicts.{ofRun}
 use Rattle.verdict.proofs.Judging.{all-left}
 use Rattle.verdict.proofs.Standing.{Stands, Kept, kept, stops, leads, no-step-stops, as-step, tick-leads, tick-stops, ends}
@@ -104,7 +101,7 @@ loop-again c =
     let end : c .before .if2 .phase-end ≡ phaseEnd t next =
     ⊎-elim
     (λ o. o .3 ∙ o .1 .ensures ∙ ap (λ es. phaseEnd (tableOf es) next) same)
-    (λ o. o .1 ∙ l .inv .1 .end-is ∙ sym (ap (phaseEnd t) to ∙ keeps-end s t x (sym enters ∙ o .0 .left)))
+    (λ o. o .1 ∙ l .inv .1 .end-is ∙ sym (ap (phaseEnd t) to ∙ keeps t s x (sym enters ∙ o .0 .left) .1))
     (c .before .if2 .came)
     in
     let device : c .before .if2 .device ≡ deviceLimit t (orderOf (next .phase)) =
@@ -112,7 +109,7 @@ loop-again c =
     (λ o. o .4 ∙ o .2 .ensures ∙ ap (λ es. deviceLimit (tableOf es) (orderOf (next .phase))) same)
     (λ o.
     o .2 ∙ l .inv .1 .device-is
-    ∙ sym (ap (λ p. deviceLimit t (orderOf p)) (ap (λ (q : State). q .phase) to ∙ keeps-phase s x (sym enters ∙ o .0 .left))))
+    ∙ sym (ap (λ p. deviceLimit t (orderOf p)) (ap (λ (q : State). q .phase) to ∙ keeps t s x (sym enters ∙ o .0 .left) .0)))
     (c .before .if2 .came)
     in (
       leads t (a .records .now) (a .begin) _ s (l .index) (l .inv .0) more (answer .result) here none,
