@@ -3,19 +3,21 @@
 use mathlib.Core.Path.{_≡_, refl, ap, subst, _∙_}
 use mathlib.Core.Bool.{Bool, true, false, cond, _&&_}
 use mathlib.Core.List.{[], _∷_}
-use Prim.Native.Nat.{ℕ, _≤_, _<_, zero-le}
+use Prim.Native.Nat.{ℕ, _-_, _≤_, _<_, zero-le}
 use native.Mathlib.Decide.{decLt}
 use native.Mathlib.Omega.{arith}
 use lib.Dec.{T, leb, leb→le, le→leb}
-use borrow.Author.Tests.{le-leb, lt-leb}
+use borrow.Author.Tests.{le-leb, lt-leb, leb-true, leb-false}
 use Rattle.checks.specs.Checks.{first, _!_}
+use Rattle.checks.proofs.Tests.{case, passes}
 use Rattle.limits.specs.declared.Table.{Table}
 use Rattle.phases.specs.Phases.{orderOf, deviceLimit, unfinished}
 use Rattle.shift.specs.declared.State.{State}
 use Rattle.shift.specs.declared.Step.{Step}
 use Rattle.shift.specs.declared.Step.the-variants.{FromNeutral, GearToGear, ToNeutral, Deliver, DeviceGood, DeviceFailed, EngineWaits, Take, AskClutch, RaiseError, Finish, Tick, Reset}
 use Rattle.shift.specs.Steps.{limited, stageBound, phaseBound, inTickTime, ticked, effect}
-use Rattle.deadlines.specs.Deadlines.{lesser, phaseEnd, stageEnd, deadline, lateBy, enters}
+use Rattle.shift.specs.Excess.{excessBy}
+use Rattle.deadlines.specs.Deadlines.{lesser, phaseEnd, stageEnd, deadline, lateBy, overBy, enters}
 
 -- ---- the lesser of two
 module _ (a b n : ℕ) where
@@ -96,6 +98,23 @@ module _ (cap stage phase now : ℕ) where
   all-in true u h = both-below (end u) stage now (to-end u (h .0) (h .2)) (leb→le now stage (h .1))
   all-in false u h = to-end u (h .0) (h .2)
 
+  -- past the second, it ends there; past the third alone, there
+  stage-end : (l : Bool) → leb (cond l now 0) stage ≡ false → cond l (lesser now stage) now ≡ stage
+  stage-end true b = rw b
+  stage-end false b = let k = leb-false 0 stage b in absurd (omega arith)
+
+  phase-end : (l u : Bool) → leb now cap ≡ true → leb (cond l now 0) stage ≡ true → until l u < now → end u ≡ phase
+  phase-end l true a b h =
+      elim (decLt phase now) [
+        | yes k ↦ let m = leb-true now cap a in rw (lt-leb cap phase (omega arith))
+        | no k ↦
+            let m : now ≤ until l true = all-in l true (passes (leb now cap) a, passes (leb (cond l now 0) stage) b, le→leb now phase (omega arith)) in
+            absurd (omega arith)
+      ]
+  phase-end l false a b h =
+      let m : now ≤ until l false = all-in l false (passes (leb now cap) a, passes (leb (cond l now 0) stage) b, le→leb 0 phase (omega arith)) in
+      absurd (omega arith)
+
 -- ---- the first of three checks
 none-fails : (a b c : Bool) → T a → T b → T c → first ((a ! 13) ∷ (b ! 12) ∷ (c ! 11) ∷ []) ≡ 0
 none-fails true true true x y z = refl
@@ -146,6 +165,22 @@ module _ (t : Table) (s : State) where
       (λ a b c.
       let l : now ≤ deadline t s = all-in 4294967295 (stageBound t s) (phaseBound t s) now (limited s) shifting (a, b, c) in
       omega arith)
+
+  -- and so far over
+  pub so-far-over :
+      (now : ℕ) → deadline t s < now
+      → (let device = deviceLimit t (orderOf (s .phase)) in
+      let k = lateBy device (t .«channel_dl») s now in
+      overBy (phaseEnd t s) device (t .«channel_dl») s now k ≡ excessBy t s now k)
+  so-far-over now h =
+      let end = stage-end 4294967295 (stageBound t s) (phaseBound t s) now (limited s) in
+      let phase-is = phase-end 4294967295 (stageBound t s) (phaseBound t s) now (limited s) shifting in
+      case (by-clock now)
+      (λ a.
+      case (by-stage now)
+      (λ b. rw (a, b) (ap (λ e. now - e) (phase-is a b h)))
+      (λ b. rw (a, b) (ap (λ e. now - e) (end b))))
+      (λ a. rw a)
 
   pub fits : deadline t s ≤ 4294967295
   fits = leb→le (deadline t s) 4294967295 (kept (deadline t s) (omega arith) .0)

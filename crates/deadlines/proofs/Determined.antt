@@ -6,6 +6,7 @@ use Rattle.deadlines.proofs.phase_end.Reads as phase-end-reads
 use Rattle.deadlines.proofs.device_limit.Reads as device-limit-reads
 use Rattle.deadlines.proofs.deadline.Reads as deadline-reads
 use Rattle.deadlines.proofs.late.Reads as late-reads
+use Rattle.deadlines.proofs.over.Reads as over-reads
 use Rattle.deadlines.proofs.enters.Reads as enters-reads
 
 pub phase-end : Determined phase-end-reads.Post
@@ -19,6 +20,9 @@ deadline κs a x y at at′ p q = p ∙ sym q
 
 pub late : Determined late-reads.Post
 late κs a x y at at′ p q = p ∙ sym q
+
+pub over : Determined over-reads.Post
+over κs a x y at at′ p q = p ∙ sym q
 
 pub enters : Determined enters-reads.Post
 enters κs a x y at at′ p q = p ∙ sym q

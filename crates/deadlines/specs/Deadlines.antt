@@ -1,10 +1,10 @@
--- Until when ticks are allowed: the last clock that a tick may reach, and the number that refuses one past it. Nobody has to believe it:
--- DeadlineLaws.antt has that it is what `inTickTime` of `shift` says.
+-- Until when ticks are allowed: the last clock that a tick may reach, the number that refuses one past it, and how far past it is. Nobody
+-- has to believe it: DeadlineLaws.antt has that it is what `inTickTime` and `excessBy` of `shift` say.
 -- Assumes nothing.
 use mathlib.Core.Bool.{Bool, true, false, cond}
 use mathlib.Core.List.{[], _∷_}
-use Prim.Native.Nat.{ℕ, _+_}
-use lib.Dec.{leb}
+use Prim.Native.Nat.{ℕ, _+_, _-_}
+use lib.Dec.{leb, eqb}
 use lib.ListN.{getD}
 use Rattle.limits.specs.declared.Table.{Table}
 use Rattle.phases.specs.Phases.{orderOf, deviceLimit, unfinished}
@@ -35,6 +35,11 @@ deadline t s = deadlineBy (phaseEnd t s) (deviceLimit t (orderOf (s .phase))) (t
 abbrev pub lateBy : ℕ → ℕ → State → ℕ → ℕ
 lateBy device channel s now =
     cond (leb now 4294967295) (cond (leb (cond (limited s) now 0) (stageEnd device channel s)) 11 12) 13
+
+-- how far past it is, by that number
+abbrev pub overBy : ℕ → ℕ → ℕ → State → ℕ → ℕ → ℕ
+overBy end device channel s now number =
+    cond (eqb number 11) (now - end) (cond (eqb number 12) (now - deadlineBy now device channel s) (now - 4294967295))
 
 -- the steps that set phase and phase time
 abbrev pub enters : Step → Bool

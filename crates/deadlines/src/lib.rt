@@ -1,9 +1,8 @@
 // Until when ticks are allowed: the last clock that a tick may reach. No tick moves it, so the judge works it out after the other steps.
 ghost use mathlib.Core.Path.{_≡_};
-ghost use Prim.Native.Nat.{_+_};
 ghost use Rattle.limits.specs.Limits.{tableOf};
 ghost use Rattle.phases.specs.Phases.{orderOf, deviceLimit};
-ghost use Rattle.deadlines.specs.Deadlines.{lesser, phaseEnd, deadlineBy, lateBy, enters};
+ghost use Rattle.deadlines.specs.Deadlines.{lesser, phaseEnd, deadlineBy, lateBy, overBy, enters};
 use limits::entry_at;
 use phases::device_entry;
 use phases::is_unfinished;
@@ -11,6 +10,8 @@ use phases::order_of;
 use phases::phase_entry;
 use shift::State;
 use shift::Step;
+use times::beyond;
+use times::bound;
 
 // The last clock by the largest one and by the limit of the phase, from a table's entries.
 pub fn phase_end(state: State, entries: &[u16; 18]) -> u64
@@ -61,6 +62,17 @@ pub fn late(state: State, clock: u64, device: u16, channel: u16) -> u8
     11
 }
 
+// How far a tick to a clock past the deadline is over, by the number that refuses it.
+pub fn over(state: State, clock: u64, number: u8, phase_end: u64, device: u16, channel: u16) -> u64
+    ensures { λ r. ⌜ r ≡ overBy «phase_end» device channel state clock number ⌝ }
+{
+    match number {
+        11 => beyond(clock, phase_end),
+        12 => beyond(clock, deadline(state, clock, device, channel)),
+        _ => beyond(clock, 4294967295),
+    }
+}
+
 // Whether a step enters a phase. The others keep the phase and the time it was entered.
 pub fn enters(x: Step) -> bool
     ensures { λ r. ⌜ r ≡ enters x ⌝ }
@@ -87,11 +99,4 @@ fn lesser(a: u64, b: u64) -> u64
     ensures { λ r. ⌜ r ≡ lesser a b ⌝ }
 {
     if a <= b { a } else { b }
-}
-
-// A time, and a limit from it on.
-fn bound(time: u32, limit: u16) -> u64
-    ensures { λ r. ⌜ r ≡ time + limit ⌝ }
-{
-    time as u64 + (limit as u64)
 }

@@ -1,11 +1,11 @@
--- Laws on the answers: what is refused, what is no step, and that an accepted step keeps the clock within its 32 bits.
+-- Laws on the answers: what is refused, what is no step, which steps leave the clock, and that an accepted one keeps it within its 32 bits.
 -- Assumes nothing.
 use mathlib.Core.Path.{_≡_, refl}
 use mathlib.Core.Logic.{⊎-elim}
 use mathlib.Core.List.{List, [], _∷_}
 use Prim.Native.Nat.{ℕ, zero, suc, _≤_}
 use native.Mathlib.Omega.{arith}
-use types.Run.{OneOf}
+use types.Run.{OneOf, miss}
 use denote.Enum.Declared.{tagOf}
 use Rattle.checks.proofs.Tests.{tests}
 use Rattle.checks.specs.Checks.{Check, first}
@@ -18,28 +18,48 @@ use Rattle.shift.specs.declared.Reading.{Reading}
 use Rattle.shift.specs.declared.Reading.the-variants.{Means, WrongCode, WrongAmount}
 use Rattle.shift.specs.declared.Answer.{Answer}
 use Rattle.shift.specs.Steps.{allowed, effect}
-use Rattle.shift.specs.Answers.{refusal, checksOf, led, refused, answer, admitting}
+use Rattle.shift.specs.Answers.{refusal, checksOf, refused, answer, answerTo, admitting}
 use Rattle.shift.proofs.Reading.{the-type}
+use Rattle.shift.proofs.Step.{the-type as step-type}
 
-pub refuses : (k : ℕ) (next s : State) → ¬ (k ≡ 0) → refused k s ≡ answer k next s
-refuses zero next s h = absurd (h refl)
-refuses (suc k) next s h = refl
+pub refuses : (k over : ℕ) (next s : State) → ¬ (k ≡ 0) → refused k over s ≡ answer k over next s
+refuses zero over next s h = absurd (h refl)
+refuses (suc k) over next s h = refl
 
-pub accepts : (k : ℕ) (next s : State) → k ≡ 0 → record { number = 0; rule = 0; state = next } ≡ answer k next s
-accepts zero next s h = refl
-accepts (suc k) next s h = absurd (omega arith)
+pub accepts : (k over : ℕ) (next s : State) → k ≡ 0 → record { number = 0; rule = 0; excess = 0; state = next } ≡ answer k over next s
+accepts zero over next s h = refl
+accepts (suc k) over next s h = absurd (omega arith)
 
-pub breaks : (k : ℕ) (a : Answer) (s : State) → ¬ (k ≡ 0) → record { number = 4; rule = k; state = s } ≡ admitting k a s
+pub breaks : (k : ℕ) (a : Answer) (s : State) → ¬ (k ≡ 0) → record { number = 4; rule = k; excess = 0; state = s } ≡ admitting k a s
 breaks zero a s h = absurd (h refl)
 breaks (suc k) a s h = refl
 
 -- a reading that is not the first of its kinds is refused by its own number, whatever its step would be asked
 pub no-step :
-    (own : Step → List Check) (s : State) (r : Reading) → OneOf (1 ∷ 2 ∷ []) (tagOf the-type r)
-    → refused (refusal r) s ≡ answer (first (checksOf own r)) (led s r) s
-no-step own s (Means x) o = absurd (⊎-elim (λ e. omega arith) (λ e. omega arith) o)
-no-step own s WrongCode o = refl
-no-step own s WrongAmount o = refl
+    (own : Step → List Check) (t : Table) (s : State) (r : Reading) → OneOf (1 ∷ 2 ∷ []) (tagOf the-type r)
+    → refused (refusal r) 0 s ≡ answerTo t s r (first (checksOf own r))
+no-step own t s (Means x) o = absurd (⊎-elim (λ e. omega arith) (λ e. omega arith) o)
+no-step own t s WrongCode o = refl
+no-step own t s WrongAmount o = refl
+
+-- every step but the tick leaves the clock
+abbrev others : List ℕ
+others = 0 ∷ 1 ∷ 2 ∷ 3 ∷ 4 ∷ 5 ∷ 6 ∷ 7 ∷ 8 ∷ 9 ∷ 10 ∷ 12 ∷ []
+
+pub no-tick : (s : State) (x : Step) → OneOf others (tagOf step-type x) → s .clock ≡ effect s x .clock
+no-tick s FromNeutral o = refl
+no-tick s GearToGear o = refl
+no-tick s ToNeutral o = refl
+no-tick s Deliver o = refl
+no-tick s DeviceGood o = refl
+no-tick s DeviceFailed o = refl
+no-tick s EngineWaits o = refl
+no-tick s Take o = refl
+no-tick s AskClutch o = refl
+no-tick s RaiseError o = refl
+no-tick s Finish o = refl
+no-tick s (Tick n) o = absurd (miss others 11 tt o)
+no-tick s Reset o = refl
 
 pub in-clock :
     (t : Table) (s : State) (x : Step) → first (allowed t s x) ≡ 0 → s .clock ≤ 4294967295

@@ -35,13 +35,17 @@ state clock box phase phaseTime stage stageTime requestTime failedPhase = record
   «failed_phase» = failedPhase;
 }
 
--- a list of steps, and what it ends in: how many are accepted, the number, the state
+-- a list of steps, and what it ends in: how many are accepted, the number, the excess, the state
 record Known : Type 0 where
   steps : List Reading
   ends : Outcome
 
+abbrev over : List Reading → ℕ → ℕ → ℕ → State → Known
+over rs count number excess s =
+    record { steps = rs; ends = record { count = count; number = number; excess = excess; state = s } }
+
 abbrev known : List Reading → ℕ → ℕ → State → Known
-known rs count number s = record { steps = rs; ends = record { count = count; number = number; state = s } }
+known rs count number s = over rs count number 0 s
 
 abbrev k1 : List Reading
 k1 = step 1 ∷ t 5 ∷ step 4 ∷ t 100 ∷ step 5 ∷ t 5 ∷ step 8 ∷ step 4 ∷ t 300 ∷ step 5 ∷ step 8 ∷ step 11 ∷ []
@@ -53,16 +57,16 @@ runs =
     -- K2: no steps: accepted, start state
     ∷ known [] 0 0 (state 0 neutral 0 0 none 0 0 0)
     -- K3, and with t5
-    ∷ known (step 1 ∷ t 6 ∷ []) 1 12 (state 0 neutral 1 0 sent 0 0 0)
+    ∷ over (step 1 ∷ t 6 ∷ []) 1 12 1 (state 0 neutral 1 0 sent 0 0 0)
     ∷ known (step 1 ∷ t 5 ∷ []) 2 0 (state 5 neutral 1 0 sent 0 0 0)
     -- K4
-    ∷ known (step 1 ∷ t 5 ∷ step 4 ∷ t 101 ∷ []) 3 12 (state 5 neutral 1 0 working 5 0 0)
+    ∷ over (step 1 ∷ t 5 ∷ step 4 ∷ t 101 ∷ []) 3 12 1 (state 5 neutral 1 0 working 5 0 0)
     -- K5
-    ∷ known (step 1 ∷ step 4 ∷ step 7 ∷ t 150 ∷ step 9 ∷ []) 4 9 (state 150 neutral 1 0 waiting 0 0 0)
+    ∷ over (step 1 ∷ step 4 ∷ step 7 ∷ t 150 ∷ step 9 ∷ []) 4 9 1 (state 150 neutral 1 0 waiting 0 0 0)
     -- K6
     ∷ known (step 1 ∷ step 4 ∷ step 7 ∷ t 151 ∷ step 9 ∷ []) 5 0 (state 151 neutral 2 151 sent 151 0 0)
     -- K7, and with t155
-    ∷ known (step 1 ∷ step 4 ∷ step 7 ∷ t 156 ∷ []) 3 11 (state 0 neutral 1 0 waiting 0 0 0)
+    ∷ over (step 1 ∷ step 4 ∷ step 7 ∷ t 156 ∷ []) 3 11 1 (state 0 neutral 1 0 waiting 0 0 0)
     ∷ known (step 1 ∷ step 4 ∷ step 7 ∷ t 155 ∷ []) 4 0 (state 155 neutral 1 0 waiting 0 0 0)
     -- K8
     ∷ known (step 2 ∷ []) 0 8 (state 0 neutral 0 0 none 0 0 0)
@@ -114,17 +118,17 @@ changing n = tableOf (set (entries default) 17 n)
 abbrev goodAt : ℕ → State
 goodAt clock = state clock neutral 1 0 good 0 0 0
 
-abbrev answered : ℕ → State → Answer
-answered number s = record { number = number; rule = 0; state = s }
+abbrev answered : ℕ → ℕ → State → Answer
+answered number excess s = record { number = number; rule = 0; excess = excess; state = s }
 
 -- K1 to K11 end so; K12: rule 14 is broken at 1,404 and none at 1,405; K13: a take is accepted at 150 and leads to phase 3, and is
--- refused with 10 at 151
+-- refused with 10 at 151, which is 1 over
 pub record KnownRuns : Type 0 where
   pub k1-k11 : map (λ k. run default start (k .steps)) runs ≡ map (λ k. k .ends) runs
   pub k12 : map (λ n. brokenRule (changing n)) (1404 ∷ 1405 ∷ []) ≡ 14 ∷ 0 ∷ []
   pub k13 :
       map (λ n. stepOn default (goodAt n) 8 0) (150 ∷ 151 ∷ [])
-      ≡ answered 0 (state 150 neutral 3 150 sent 150 0 0) ∷ answered 10 (goodAt 151) ∷ []
+      ≡ answered 0 0 (state 150 neutral 3 150 sent 150 0 0) ∷ answered 10 1 (goodAt 151) ∷ []
 
 pub known-runs : KnownRuns
 known-runs = record { k1-k11 = refl; k12 = refl; k13 = refl }

@@ -2,6 +2,7 @@ pub mod StepLaws
 pub mod ReadingLaws
 pub mod HeadLaws
 pub mod AnswerLaws
+pub mod ExcessLaws
 pub mod ListedLaws
 pub mod Determined
 pub mod KnownRuns

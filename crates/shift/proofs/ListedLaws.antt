@@ -18,7 +18,7 @@ use Rattle.shift.specs.declared.Reading.the-variants.{Means, WrongCode, 
 use Rattle.shift.specs.declared.Answer.{Answer}
 use Rattle.shift.specs.States.{entered}
 use Rattle.shift.specs.Steps.{allowed, requested, boxed, boxTaken, effect}
-use Rattle.shift.specs.Answers.{refusal, listed, checksOf, guard, led, answer, judged}
+use Rattle.shift.specs.Answers.{refusal, listed, checksOf, guard, led, excess, answer, answerTo, judged}
 
 -- of a listed state nothing is checked but what its step asks
 pub left-to-check : (t : Table) (s : State) → Holds (listed s) → (r : Reading) → first (checksOf (allowed t s) r) ≡ guard t s r
@@ -28,8 +28,8 @@ left-to-check t s h WrongAmount = refl
 
 pub judged-as-listed :
     (t : Table) (s : State) (r : Reading) → Holds (listed s)
-    → answer (first (checksOf (allowed t s) r)) (led s r) s ≡ judged t s r
-judged-as-listed t s r h = ap (λ k. answer k (led s r) s) (left-to-check t s h r)
+    → answerTo t s r (first (checksOf (allowed t s) r)) ≡ judged t s r
+judged-as-listed t s r h = ap (answerTo t s r) (left-to-check t s h r)
 
 -- of another what is no step is refused by its own number, and a step by the state's
 pub kept-out : (t : Table) (s : State) (r : Reading) → ¬ (first (listed s) ≡ 0) → guard t s r ≡ cond (eqb (refusal r) 0) (first (listed s)) (refusal r)
@@ -73,12 +73,12 @@ stays-listed s WrongCode h = h
 stays-listed s WrongAmount h = h
 
 -- so an accepted step leads from a listed state to a listed one
-pub led-to : (k : ℕ) (next s : State) → answer k next s .number ≡ 0 → answer k next s .state ≡ next
-led-to zero next s z = refl
-led-to (suc k) next s z = absurd (omega arith)
+pub led-to : (k over : ℕ) (next s : State) → answer k over next s .number ≡ 0 → answer k over next s .state ≡ next
+led-to zero over next s z = refl
+led-to (suc k) over next s z = absurd (omega arith)
 
 pub accepted-listed :
     (t : Table) (s : State) (r : Reading) (a : Answer) → a ≡ judged t s r → a .number ≡ 0 → Holds (listed s) → Holds (listed (a .state))
 accepted-listed t s r a e z h =
-    let there = led-to (guard t s r) (led s r) s (sym (ap (λ (q : Answer). q .number) e) ∙ z) in
+    let there = led-to (guard t s r) (excess t s r (guard t s r)) (led s r) s (sym (ap (λ (q : Answer). q .number) e) ∙ z) in
     subst (λ (q : State). Holds (listed q)) (sym (ap (λ (q : Answer). q .state) e ∙ there)) (stays-listed s r h)

@@ -3,23 +3,24 @@
 use mathlib.Core.Path.{_≡_, refl, sym, subst}
 use mathlib.Core.Bool.{Bool, true, false, cond, _&&_, _||_}
 use mathlib.Core.Logic.{⊎-elim}
-use mathlib.Core.List.{[], _∷_}
+use mathlib.Core.List.{List, [], _∷_}
 use Prim.Native.Nat.{ℕ, _≤_, _<_, zero-le}
 use native.Mathlib.Decide.{decLt}
 use native.Mathlib.Omega.{arith}
 use lib.Dec.{T, leb, ltb, eqb, leb→le, eqb→eq}
-use lib.ListN.{getD}
+use lib.ListN.{getD, List·getD-eq-default}
 use borrow.Author.Tests.{le-leb, lt-leb, le-ltb, eqb-false}
 use Rattle.checks.specs.Checks.{first}
 use Rattle.checks.proofs.Tests.{tests, passes, case, left, right, either}
 use Rattle.checks.proofs.Checks.{first→holds, one-check}
 use Rattle.checks.proofs.Ranges.{from}
 use Rattle.phases.proofs.PhaseLaws.{ordered, unfinished-in}
+use Rattle.phases.proofs.CaseLaws.{NoneOf, otherwise}
 use Rattle.limits.specs.declared.Table.{Table}
 use Rattle.shift.specs.declared.State.{State}
-use Rattle.phases.specs.Phases.{orderOf, unfinished, engine}
+use Rattle.phases.specs.Phases.{orderOf, deviceLimit, unfinished, engine}
 use Rattle.shift.specs.States.{good}
-use Rattle.shift.specs.Steps.{shiftsIn, takeBound, inTakeTime, limited}
+use Rattle.shift.specs.Steps.{shiftsIn, takeBound, inTakeTime, stageLimit, limited}
 
 -- three tests of one number, and one that asks for all
 pub all-three : (a b c : Bool) (k : ℕ) → cond ((a && b) && c) 0 k ≡ cond a (cond b (cond c 0 k) k) k
@@ -78,9 +79,21 @@ limited-in s h =
       leb→le (s .stage) 3 (right (leb 1 (s .stage)) (leb (s .stage) 3) g),
     )
 
+-- the limits by stage
+abbrev limits-by : Table → State → List ℕ
+limits-by t s = 0 ∷ t .«channel_dl» ∷ deviceLimit t (orderOf (s .phase)) ∷ t .«channel_dl» ∷ []
+
 -- the channel's limit in stages 1 and 3
 pub by-channel : (ch device g : ℕ) → 1 ≤ g → g < 4 → ¬ (g ≡ 2) → getD (0 ∷ ch ∷ device ∷ ch ∷ []) g 0 ≡ ch
 by-channel ch device = from _ 1 3 (omega arith)
+
+-- no limit in the others
+pub no-limit : (t : Table) (s : State) → NoneOf (3 ∷ 2 ∷ 1 ∷ []) (s .stage) → 0 ≡ stageLimit t s
+no-limit t s r =
+    elim (decLt (s .stage) 4) [
+      | yes h ↦ otherwise 0 (λ g. getD (limits-by t s) g 0) (3 ∷ 2 ∷ 1 ∷ []) 0 4 (omega arith) (s .stage) zero-le h r
+      | no h ↦ sym (List·getD-eq-default (limits-by t s) 0 {n = s .stage} (omega arith))
+    ]
 
 -- one of these stages, and none of them
 module _ (g : ℕ) where

@@ -17,6 +17,7 @@ use Rattle.shift.specs.declared.Answer.{Answer}
 use Rattle.phases.specs.Phases.{error}
 use Rattle.shift.specs.States.{waiting}
 use Rattle.shift.specs.Steps.{allowed, effect}
+use Rattle.shift.specs.Excess.{excessBy}
 
 -- ---- what a code, a middle byte and an amount mean
 
@@ -81,24 +82,32 @@ led s (Means x) = effect s x
 led s WrongCode = s
 led s WrongAmount = s
 
+-- by how many milliseconds what this number refuses is too early or past the limit
+abbrev pub excess : Table → State → Reading → ℕ → ℕ
+excess t s r number = excessBy t s (led s r .clock) number
+
 -- ---- the answer
 
 -- a refused step gives back the state it was given
-abbrev pub refused : ℕ → State → Answer
-refused number s = record { number = number; rule = 0; state = s }
+abbrev pub refused : ℕ → ℕ → State → Answer
+refused number over s = record { number = number; rule = 0; excess = over; state = s }
 
-abbrev pub answer : ℕ → State → State → Answer
-answer zero next s = record { number = 0; rule = 0; state = next }
-answer (suc k) next s = refused (suc k) s
+abbrev pub answer : ℕ → ℕ → State → State → Answer
+answer zero over next s = record { number = 0; rule = 0; excess = 0; state = next }
+answer (suc k) over next s = refused (suc k) over s
+
+-- to what was read, where this is its number
+abbrev pub answerTo : Table → State → Reading → ℕ → Answer
+answerTo t s r number = answer number (excess t s r number) (led s r) s
 
 -- under an admitted table
 abbrev pub judged : Table → State → Reading → Answer
-judged t s r = answer (guard t s r) (led s r) s
+judged t s r = answerTo t s r (guard t s r)
 
 -- 4, with the rule, comes before all else
 abbrev pub admitting : ℕ → Answer → State → Answer
 admitting zero a s = a
-admitting (suc k) a s = record { number = 4; rule = suc k; state = s }
+admitting (suc k) a s = record { number = 4; rule = suc k; excess = 0; state = s }
 
 -- under any table; a step that is given by code and amount has no middle byte
 abbrev pub stepOn : Table → State → ℕ → ℕ → Answer

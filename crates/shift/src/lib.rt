@@ -4,13 +4,14 @@ ghost use mathlib.Core.Bool.{cond, _&&_};
 ghost use Prim.Native.Nat.{_/_, _%_};
 ghost use lib.Dec.{leb};
 ghost use Rattle.checks.specs.Checks.{first};
-ghost use Rattle.shift.specs.declared.Reading.the-variants.{WrongCode, WrongAmount};
+ghost use Rattle.shift.specs.declared.Reading.the-variants.{Means, WrongCode, WrongAmount};
 ghost use Rattle.shift.specs.States.{start};
-ghost use Rattle.shift.specs.Steps.{allowed, effect};
-ghost use Rattle.shift.specs.Answers.{plain, ticking, reading, refusal, checksOf, led, refused, answer, judged, stepOn};
+ghost use Rattle.shift.specs.Steps.{allowed};
+ghost use Rattle.shift.specs.Answers.{plain, ticking, reading, refusal, checksOf, refused, answerTo, judged, stepOn};
 use limits::Table;
 
 mod effects;
+mod excess;
 mod guards;
 
 #[repr(C)]
@@ -49,10 +50,12 @@ pub enum Reading {
     WrongAmount,
 }
 
-// 0 and the state after the step, or the number that refuses it and the state that was given; the rule is 0 except with 4.
+// 0 and the state after the step, or the number that refuses it and the state that was given; the rule is 0 except with 4. The excess
+// is the milliseconds by which the step is too early or past the limit, with 9 to 13, and else 0.
 pub struct Answer {
     pub number: u8,
     pub rule: u8,
+    pub excess: u64,
     pub state: State,
 }
 
@@ -183,6 +186,7 @@ impl State {
             return Answer {
                 number: 4,
                 rule,
+                excess: 0,
                 state: self,
             };
         }
@@ -199,44 +203,47 @@ impl State {
         }
         let wrong = reading.refusal();
         if wrong != 0 {
-            return self.refused(wrong);
+            return self.refused(wrong, 0);
         }
-        self.refused(unlisted)
+        self.refused(unlisted, 0)
     }
 
     // The same for a state that has been tested too: what `judged` checks but for the state's own 7.
     pub fn judged_listed(self, table: Table, reading: Reading) -> Answer
-        ensures { λ r. ⌜ r ≡ answer (first (checksOf (allowed table self) reading)) (led self reading) self ⌝ }
+        ensures { λ r. ⌜ r ≡ answerTo table self reading (first (checksOf (allowed table self) reading)) ⌝ }
     {
         let Reading::Means(x) = reading else {
-            return self.refused(reading.refusal());
+            return self.refused(reading.refusal(), 0);
         };
         self.judged_step(table, x)
     }
 
     // The same for a step.
     pub fn judged_step(self, table: Table, x: Step) -> Answer
-        ensures { λ r. ⌜ r ≡ answer (first (allowed table self x)) (effect self x) self ⌝ }
+        ensures { λ r. ⌜ r ≡ answerTo table self (Means x) (first (allowed table self x)) ⌝ }
     {
         let number = self.guard(table, x);
         if number != 0 {
-            return self.refused(number);
+            let now = self.clock_after(x);
+            return self.refused(number, self.excess(table, now, number));
         }
         let next = self.effect(x);
         Answer {
             number: 0,
             rule: 0,
+            excess: 0,
             state: next,
         }
     }
 
     // A refused step gives back the state it was given.
-    fn refused(self, number: u8) -> Answer
-        ensures { λ r. ⌜ r ≡ refused number self ⌝ }
+    fn refused(self, number: u8, excess: u64) -> Answer
+        ensures { λ r. ⌜ r ≡ refused number excess self ⌝ }
     {
         Answer {
             number,
             rule: 0,
+            excess,
             state: self,
         }
     }

@@ -1,6 +1,6 @@
 // Times against limits: sums are compared, without wrapping.
 ghost use mathlib.Core.Path.{_≡_};
-ghost use Prim.Native.Nat.{_+_};
+ghost use Prim.Native.Nat.{_+_, _-_};
 ghost use lib.Dec.{ltb};
 
 // A tick would move the clock past its 32 bits. The room that is left is asked for, which takes fewer instructions than the sum.
@@ -29,4 +29,18 @@ pub fn is_early(clock: u32, time: u32, de: u16) -> bool
     ensures { λ r. ⌜ r ≡ ltb clock (time + de) ⌝ }
 {
     (clock as u64) < time as u64 + (de as u64)
+}
+
+// A time, and a limit from it on.
+pub fn bound(time: u32, limit: u16) -> u64
+    ensures { λ r. ⌜ r ≡ time + limit ⌝ }
+{
+    time as u64 + (limit as u64)
+}
+
+// The milliseconds by which a clock is past a bound, 0 where it is not.
+pub fn beyond(clock: u64, bound: u64) -> u64
+    ensures { λ r. ⌜ r ≡ clock - bound ⌝ }
+{
+    if bound < clock { clock - bound } else { 0 }
 }

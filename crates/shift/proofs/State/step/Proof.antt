@@ -1,6 +1,7 @@
 -- `State::step` meets its contract: the table's broken rule first, then the answer to what the code and the amount mean.
 -- Assumes nothing.
-use Rattle.shift.specs.Answers.{judged, reading}
+use mathlib.Core.Path.{sym, ap, _∙_}
+use Rattle.shift.specs.Answers.{judged, reading, admitting}
 use Rattle.shift.proofs.AnswerLaws.{breaks}
 use Rattle.shift.proofs.State.step.Statement.{statement}
 use Rattle.shift.proofs.State.step.Tie as tie
@@ -14,12 +15,11 @@ returns c =
 
 returns-2 : tie.Need-returns-2
 returns-2 c =
-    rw (
-      ← c .before .before .before .broken-rule .ensures,
-      c .before .before .if1 .left,
-      c .judged .ensures,
-      c .before .of .ensures,
-    )
+    let a = c .before .before .before .before .args in
+    let admitted = sym (c .before .before .before .broken-rule .ensures) ∙ c .before .before .if1 .left in
+    c .judged .ensures
+    ∙ ap (judged (a .table) (a .self)) (c .before .of .ensures)
+    ∙ sym (ap (λ k. admitting k (judged (a .table) (a .self) (reading (a .code) 0 (a .amount))) (a .self)) admitted)
 
 pub step-spec : {M : Type 1} → statement M
 step-spec = tie.close (tie.spec (λ _ _. tt) returns (λ _ _. tt) (λ _ _. tt) returns-2)
