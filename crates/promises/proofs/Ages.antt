@@ -141,7 +141,7 @@ pub in-time :
     → InTime t (lastKind k rs) (run t s rs .state)
 in-time t k s [] i e = i
 in-time t k s (r ∷ rs) i e =
-    let w = went-on (guard t s r) s (run t (led s r) rs) e in
+    let w = went-on (guard t s r) _ s (run t (led s r) rs) e in
     rw (w .0) (in-time t (kindAfter k r) (led s r) rs (kept-in-time t k s i r (w .0)) (w .1))
 
 -- ---- under an admitted table the sum of the kind covers it, and the limit for a whole change covers the sum

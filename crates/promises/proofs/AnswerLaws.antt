@@ -23,38 +23,48 @@ use Rattle.shift.specs.declared.Step.the-variants.{FromNeutral, GearToGear, ToN
 use Rattle.shift.specs.declared.Reading.{Reading}
 use Rattle.shift.specs.declared.Reading.the-variants.{Means, WrongCode, WrongAmount}
 use Rattle.shift.specs.declared.Answer.{Answer}
-use Rattle.shift.specs.Answers.{reading, guard, led, answer, judged, admitting}
+use Rattle.shift.specs.Answers.{reading, guard, led, excess, answer, judged, admitting}
 use Rattle.shift.specs.Refusals.{codeOf, amountOf, Reads}
 use Rattle.shift.proofs.Refusals.{a-code, reads}
 use Rattle.promises.specs.Effects.{Effect}
-use Rattle.promises.specs.Refusals.{recordRefusals, refusals, Answered}
+use Rattle.promises.specs.Refusals.{recordRefusals, refusals}
+use Rattle.promises.specs.Excess.{HowFar}
+use Rattle.promises.specs.Answered.{Answered}
 use Rattle.promises.proofs.Permitted.{permitted}
 use Rattle.promises.proofs.EffectLaws.{effects}
 use Rattle.promises.proofs.RefusalLaws.{no-request, first-refusal}
+use Rattle.promises.proofs.ExcessLaws.{nothing, how-far, no-other-excess}
 
--- ---- number and state of an answer, by the broken rule k and the guard's g
-module _ (next s : State) where
+-- ---- number, excess and state of an answer, by the broken rule k and the guard's g
+module _ (over : ℕ) (next s : State) where
   numbered :
       {P : Type 0} (k g : ℕ) (ws : List Condition) → (k ≡ 0) ↔ P → FirstOf ws g
-      → FirstOf (_gives_ (¬ P) 4 ∷ ws) (admitting k (answer g next s) s .number)
+      → FirstOf (_gives_ (¬ P) 4 ∷ ws) (admitting k (answer g over next s) s .number)
   numbered zero zero ws p f = inr (λ n. n (p .0 refl), f)
   numbered zero (suc g) ws p f = inr (λ n. n (p .0 refl), f)
   numbered (suc k) g ws p f = inl (λ q. let z = p .1 q in omega arith, refl)
 
-  given-back : (k g : ℕ) → ¬ (admitting k (answer g next s) s .number ≡ 0) → admitting k (answer g next s) s .state ≡ s
+  given-back : (k g : ℕ) → ¬ (admitting k (answer g over next s) s .number ≡ 0) → admitting k (answer g over next s) s .state ≡ s
   given-back zero zero n = absurd (n refl)
   given-back zero (suc g) n = refl
   given-back (suc k) g n = refl
 
-  gone-on : (k g : ℕ) → admitting k (answer g next s) s .number ≡ 0 → (g ≡ 0) × (admitting k (answer g next s) s .state ≡ next)
+  gone-on : (k g : ℕ) → admitting k (answer g over next s) s .number ≡ 0 → (g ≡ 0) × (admitting k (answer g over next s) s .state ≡ next)
   gone-on zero zero z = (refl, refl)
   gone-on zero (suc g) z = absurd (omega arith)
   gone-on (suc k) g z = absurd (omega arith)
 
-  ruled : (k g : ℕ) → admitting k (answer g next s) s .rule ≡ k
+  ruled : (k g : ℕ) → admitting k (answer g over next s) s .rule ≡ k
   ruled zero zero = refl
   ruled zero (suc g) = refl
   ruled (suc k) g = refl
+
+  far :
+      (t : Table) (code amount k g : ℕ) → HowFar t s code amount g over
+      → (let a = admitting k (answer g over next s) s in HowFar t s code amount (a .number) (a .excess))
+  far t code amount zero zero h = nothing t s code amount 0 (omega arith)
+  far t code amount zero (suc g) h = h
+  far t code amount (suc k) g h = nothing t s code amount 4 (omega arith)
 
 -- ---- a step by its code and its amount
 abbrev stepOf : ℕ → ℕ → Step
@@ -104,14 +114,16 @@ module _ (t : Table) (s : State) (code middle amount : ℕ) where
   makes WrongCode h z = absurd (omega arith)
   makes WrongAmount h z = absurd (omega arith)
 
-  pub answered : Answered t s code middle amount (given .number) (given .state)
+  pub answered : Answered t s code middle amount (given .number) (given .excess) (given .state)
   answered =
       let r = reading code middle amount in
+      let over = excess t s r (guard t s r) in
       let read = reads middle amount code in record {
-        first = numbered (led s r) s (brokenRule t) (guard t s r) (recordRefusals t s code middle amount) (admitted-in-the-document's-words t) (first-refusal t s code middle amount);
-        refused = given-back (led s r) s (brokenRule t) (guard t s r);
+        first = numbered over (led s r) s (brokenRule t) (guard t s r) (recordRefusals t s code middle amount) (admitted-in-the-document's-words t) (first-refusal t s code middle amount);
+        how-far = far over (led s r) s t code amount (brokenRule t) (guard t s r) (how-far t s code middle amount r read);
+        refused = given-back over (led s r) s (brokenRule t) (guard t s r);
         accepted = λ z.
-            let w = gone-on (led s r) s (brokenRule t) (guard t s r) z in
+            let w = gone-on over (led s r) s (brokenRule t) (guard t s r) z in
             let m = makes r read (w .0) in
             (m .0, m .1, m .2, rw (w .1) (m .3));
       }
@@ -120,7 +132,7 @@ module _ (t : Table) (s : State) (code middle amount : ℕ) where
   pub with-its-rule : FirstOf (broken t) (given .rule)
   with-its-rule =
       let r = reading code middle amount in
-      subst (FirstOf (broken t)) (sym (ruled (led s r) s (brokenRule t) (guard t s r))) (in-order t)
+      subst (FirstOf (broken t)) (sym (ruled (excess t s r (guard t s r)) (led s r) s (brokenRule t) (guard t s r))) (in-order t)
 
   made :
       (r : Reading) → Reads code middle amount r → guard t s r ≡ 0
@@ -133,22 +145,27 @@ module _ (t : Table) (s : State) (code middle amount : ℕ) where
 
   -- nothing else fits that description
   pub the-one :
-      (number : ℕ) (s′ : State) → Answered t s code middle amount number s′ → (number ≡ given .number) × (s′ ≡ given .state)
-  the-one number s′ h =
+      (number over : ℕ) (s′ : State) → Answered t s code middle amount number over s′
+      → (number ≡ given .number) × (over ≡ given .excess) × (s′ ≡ given .state)
+  the-one number over s′ h =
       let r = reading code middle amount in
       let k = brokenRule t in
       let g = guard t s r in
+      let e = excess t s r g in
       let same = no-other (refusals t s code middle amount) number (given .number) (h .first) (answered .first) in (
         same,
+        no-other-excess t s code amount (given .number) over (given .excess)
+            (subst (λ (n : ℕ). HowFar t s code amount n over) same (h .how-far))
+            (answered .how-far),
         case (eqb number 0)
-            (λ e.
-            let z = eqb-true number 0 e in
-            let w = gone-on (led s r) s k g (sym same ∙ z) in
+            (λ q.
+            let z = eqb-true number 0 q in
+            let w = gone-on e (led s r) s k g (sym same ∙ z) in
             let m = h .accepted z in
             made r (reads middle amount code) (w .0) (m .0) (m .1) (m .2) s′ (m .3) ∙ sym (w .1))
-            (λ e.
-            let n = eqb-false number 0 e in
-            h .refused n ∙ sym (given-back (led s r) s k g (λ z. n (same ∙ z)))),
+            (λ q.
+            let n = eqb-false number 0 q in
+            h .refused n ∙ sym (given-back e (led s r) s k g (λ z. n (same ∙ z)))),
       )
 
 -- ---- the numbers that an answer can have: those of the conditions that can hold

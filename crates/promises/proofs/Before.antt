@@ -163,8 +163,10 @@ module _ (t : Table) (old : ℕ) (s : State) (b : Beside old s) where
   }
 
 -- ---- over lists
-ended : (old : ℕ) (s : State) (k : ℕ) → Beside old s → Agree (record { count = 0; number = k; state = boxed old s }) (record { count = 0; number = k; state = s })
-ended old s k b = record {
+ended :
+    (old : ℕ) (s : State) (k d e : ℕ) → Beside old s
+    → Agree (record { count = 0; number = k; excess = d; state = boxed old s }) (record { count = 0; number = k; excess = e; state = s })
+ended old s k d e b = record {
   count = refl;
   number = refl;
   clock = refl;
@@ -178,8 +180,10 @@ ended old s k b = record {
   in-22 = λ e. ap (λ box. boxed box s) (b .same .in-22 e);
 }
 
-goes-on : (old : ℕ) (s : State) (k : ℕ) (xs ys : Outcome) → Beside old s → (k ≡ 0 → Agree xs ys) → Agree (after k (boxed old s) xs) (after k s ys)
-goes-on old s zero xs ys b f =
+goes-on :
+    (old : ℕ) (s : State) (k d e : ℕ) (xs ys : Outcome) → Beside old s → (k ≡ 0 → Agree xs ys)
+    → Agree (after k d (boxed old s) xs) (after k e s ys)
+goes-on old s zero d e xs ys b f =
     let a = f refl in record {
       count = ap suc (a .count);
       number = a .number;
@@ -193,15 +197,15 @@ goes-on old s zero xs ys b f =
       at-rest = a .at-rest;
       in-22 = a .in-22;
     }
-goes-on old s (suc k) xs ys b f = ended old s (suc k) b
+goes-on old s (suc k) d e xs ys b f = ended old s (suc k) d e b
 
 from-beside :
     (t : Table) (old : ℕ) (s : State) (rs : List Reading) → Beside old s → WithoutReset rs
     → Agree (runBy ledBefore t (boxed old s) rs) (run t s rs)
-from-beside t old s [] b w = ended old s 0 b
+from-beside t old s [] b w = ended old s 0 0 0 b
 from-beside t old s (r ∷ rs) b w =
     rw (same-guard t old s b r, same-led old s r)
-    (goes-on old s (guard t s r) (runBy ledBefore t (boxed (next old s r) (led s r)) rs) (run t (led s r) rs) b
+    (goes-on old s (guard t s r) _ _ (runBy ledBefore t (boxed (next old s r) (led s r)) rs) (run t (led s r) rs) b
     (λ z. from-beside t (next old s r) (led s r) rs (goes-beside t old s b r (w .0) z) (w .1)))
 
 -- For every table and every list of the old twelve steps, old rules and new accept the same steps and refuse at the same record by the

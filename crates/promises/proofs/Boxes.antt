@@ -77,15 +77,15 @@ module _ (t : Table) (s : State) (i : Stands (s .phase) (s .«gear_box»)) where
 
 -- ---- every list leads to it
 goes :
-    (k : ℕ) (s : State) (rest : Outcome) → Stands (s .phase) (s .«gear_box»)
+    (k over : ℕ) (s : State) (rest : Outcome) → Stands (s .phase) (s .«gear_box»)
     → (k ≡ 0 → Stands (rest .state .phase) (rest .state .«gear_box»))
-    → Stands (after k s rest .state .phase) (after k s rest .state .«gear_box»)
-goes zero s rest i f = f refl
-goes (suc k) s rest i f = i
+    → Stands (after k over s rest .state .phase) (after k over s rest .state .«gear_box»)
+goes zero over s rest i f = f refl
+goes (suc k) over s rest i f = i
 
 pub standing :
     (t : Table) (s : State) (rs : List Reading) → Stands (s .phase) (s .«gear_box»)
     → Stands (run t s rs .state .phase) (run t s rs .state .«gear_box»)
 standing t s [] i = i
 standing t s (r ∷ rs) i =
-    goes (guard t s r) s (run t (led s r) rs) i (λ z. standing t (led s r) rs (kept-standing t s i r z))
+    goes (guard t s r) _ s (run t (led s r) rs) i (λ z. standing t (led s r) rs (kept-standing t s i r z))

@@ -21,7 +21,8 @@ use Rattle.shift.specs.Answers.{checks, guard, led}
 use Rattle.shift.specs.Runs.{Outcome, after, run}
 use Rattle.shift.proofs.Refusals.{a-code}
 use Rattle.promises.specs.Allowed.{Shifting, Engine}
-use Rattle.promises.specs.Refusals.{placings, byCode, Misplaced, Answered}
+use Rattle.promises.specs.Refusals.{placings, byCode, Misplaced}
+use Rattle.promises.specs.Answered.{Answered}
 use Rattle.promises.specs.Before.{WithoutReset}
 use Rattle.promises.proofs.Runs.{each-step}
 use Rattle.promises.proofs.PlaceLaws.{engine-order}
@@ -48,10 +49,10 @@ module _ (t : Table) (s : State) (code middle amount : ℕ) (e : s .phase ≡ 23
 
   -- whatever is answered as one step is: under an admitted table codes 1 to 11 are refused with 7
   pub an-error-is-final-until-a-reset :
-      (n : ℕ) (u : State) → Answered t s code middle amount n u → Admitted t → Formed code middle amount
+      (n over : ℕ) (u : State) → Answered t s code middle amount n over u → Admitted t → Formed code middle amount
       → 1 ≤ code → code ≤ 11
       → (n ≡ 7) × (u ≡ s)
-  an-error-is-final-until-a-reset n u x admitted formed l m =
+  an-error-is-final-until-a-reset n over u x admitted formed l m =
       let seven : n ≡ 7 =
       ⊎-elim
       (λ a. absurd (a .0 admitted))
@@ -129,16 +130,16 @@ module _ (t : Table) (s : State) (e : s .phase ≡ 23) where
   ticks-on : (r : Reading) → guard t s r ≡ 0 → ¬ (r ≡ Means Reset) → Stopped s (led s r)
   ticks-on = each-step (λ r. ¬ (r ≡ Means Reset) → Stopped s (led s r)) t s ticks-alone
 
-ends : (k : ℕ) (s : State) (rest : Outcome) → (k ≡ 0 → Stopped s (rest .state)) → Stopped s (after k s rest .state)
-ends zero s rest f = f refl
-ends (suc k) s rest f = clocked s (s .clock)
+ends : (k over : ℕ) (s : State) (rest : Outcome) → (k ≡ 0 → Stopped s (rest .state)) → Stopped s (after k over s rest .state)
+ends zero over s rest f = f refl
+ends (suc k) over s rest f = clocked s (s .clock)
 
 -- from an error on, as far as a list is accepted and until it has a reset, nothing but the clock moves
 pub only-the-clock-moves-after-an-error :
     (t : Table) (s : State) (rs : List Reading) → s .phase ≡ 23 → WithoutReset rs → Stopped s (run t s rs .state)
 only-the-clock-moves-after-an-error t s [] e w = clocked s (s .clock)
 only-the-clock-moves-after-an-error t s (r ∷ rs) e w =
-    ends (guard t s r) s (run t (led s r) rs) (λ z.
+    ends (guard t s r) _ s (run t (led s r) rs) (λ z.
     let one = ticks-on t s e r z (w .0) in
     still s (led s r) (run t (led s r) rs .state) one
     (only-the-clock-moves-after-an-error t (led s r) rs (one .phase ∙ e) (w .1)))

@@ -12,7 +12,7 @@ use Rattle.checks.proofs.Tests.{case}
 use Rattle.limits.specs.declared.Table.{Table}
 use Rattle.shift.specs.declared.State.{State}
 use Rattle.shift.specs.declared.Reading.{Reading}
-use Rattle.shift.specs.Answers.{guard, led}
+use Rattle.shift.specs.Answers.{guard, led, excess}
 use Rattle.shift.specs.Runs.{Outcome, after, run}
 use Rattle.promises.specs.Allowed.{Permitted}
 use Rattle.promises.specs.Verdicts.{Exact, leads, at}
@@ -26,18 +26,20 @@ module _ (t : Table) (s : State) (r : Reading) (rs : List Reading) where
   allowed-on o x e zero h = permitted t s r .0 e
   allowed-on o x e (suc i) h = x .allowed i (le-of-suc-le-suc h)
 
-  one-more : (k : ℕ) (o : Outcome) → guard t s r ≡ k → Exact t (led s r) rs o → Exact t s (r ∷ rs) (after k s o)
+  one-more : (k : ℕ) (o : Outcome) → guard t s r ≡ k → Exact t (led s r) rs o → Exact t s (r ∷ rs) (after k (excess t s r k) s o)
   one-more zero o e x = record {
     allowed = allowed-on o x e;
     state = x .state;
     refused = λ h. let f = x .refused h in (omega arith, f .1);
     accepted = λ h. ap suc (x .accepted h);
+    over = x .over;
   }
   one-more (suc k) o e x = record {
     allowed = λ i h. absurd (omega arith);
     state = refl;
     refused = λ h. (omega arith, e);
     accepted = λ h. absurd (omega arith);
+    over = refl;
   }
 
 pub exact : (t : Table) (s : State) (rs : List Reading) → Exact t s rs (run t s rs)
@@ -46,6 +48,7 @@ exact t s [] = record {
   state = refl;
   refused = λ h. absurd (h refl);
   accepted = λ h. refl;
+  over = refl;
 }
 exact t s (r ∷ rs) = one-more t s r rs (guard t s r) (run t (led s r) rs) refl (exact t (led s r) rs)
 
@@ -90,6 +93,15 @@ module _ (t : Table) (s : State) (rs : List Reading) where
   only a b x y =
       let c = same-count a b x y in
       let z = same-state a b x y in
-      ap (λ n. record { count = n; number = a .number; state = a .state }) c
-      ∙ ap (λ n. record { count = b .count; number = n; state = a .state }) (same-number a b x y c z)
-      ∙ ap (λ n. record { count = b .count; number = b .number; state = n }) z
+      let k = same-number a b x y c z in
+      let e : a .excess ≡ b .excess =
+      x .over
+      ∙ ap (λ (q : State). excess t q (at rs (a .count)) (a .number)) z
+      ∙ ap (λ n. excess t (b .state) (at rs n) (a .number)) c
+      ∙ ap (excess t (b .state) (at rs (b .count))) k
+      ∙ sym (y .over)
+      in
+      ap (λ n. record { count = n; number = a .number; excess = a .excess; state = a .state }) c
+      ∙ ap (λ n. record { count = b .count; number = n; excess = a .excess; state = a .state }) k
+      ∙ ap (λ n. record { count = b .count; number = b .number; excess = n; state = a .state }) e
+      ∙ ap (λ n. record { count = b .count; number = b .number; excess = b .excess; state = n }) z

@@ -7,6 +7,7 @@ pub mod PlaceLaws
 pub mod Permitted
 pub mod EffectLaws
 pub mod RefusalLaws
+pub mod ExcessLaws
 pub mod AnswerLaws
 pub mod Exactly
 pub mod Boxes

@@ -73,5 +73,5 @@ module _ (t u : Table) (l : NowhereTighter t u) where
   pub same-run : (s : State) (rs : List Reading) → run t s rs .number ≡ 0 → run u s rs ≡ run t s rs
   same-run s [] e = refl
   same-run s (r ∷ rs) e =
-      let w = went-on (guard t s r) s (run t (led s r) rs) e in
+      let w = went-on (guard t s r) _ s (run t (led s r) rs) e in
       rw (w .0, accepts s r (w .0), same-run (led s r) rs (w .1))

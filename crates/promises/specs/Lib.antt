@@ -1,6 +1,8 @@
 pub mod Allowed
 pub mod Effects
 pub mod Refusals
+pub mod Excess
+pub mod Answered
 pub mod Kinds
 pub mod Verdicts
 pub mod Before

@@ -1,20 +1,18 @@
 -- Document 01, "Numbers for what is refused", a second time: of one step on any given state and table the condition of each number, in
--- the document's words and by the numbers of codes, phases and stages, and what is answered. With the checks of `shift` it shares
--- nothing but the fields of a state and of a table.
+-- the document's words and by the numbers of codes, phases and stages. With the checks of `shift` it shares nothing but the fields of a
+-- state and of a table.
 -- Assumes nothing.
 use mathlib.Core.Path.{_≡_}
 use mathlib.Core.Logic.{_⊎_}
 use mathlib.Core.List.{List, [], _∷_}
 use Prim.Native.Nat.{ℕ, zero, suc, _+_, _<_}
-use Rattle.checks.specs.Conditions.{Condition, _gives_, FirstOf, OneOf}
+use Rattle.checks.specs.Conditions.{Condition, _gives_, OneOf}
 use Rattle.limits.specs.declared.Table.{Table}
 use Rattle.limits.specs.Refusals.{Admitted}
 use Rattle.phases.specs.ByPhase.{deviceLimitIn, phaseLimitIn, exIn, deIn}
 use Rattle.shift.specs.declared.State.{State}
-use Rattle.shift.specs.declared.Step.{Step}
-use Rattle.shift.specs.Refusals.{codeOf, amountOf, NoCode, Malformed}
+use Rattle.shift.specs.Refusals.{NoCode, Malformed}
 use Rattle.promises.specs.Allowed.{Listed, Shifting, Engine}
-use Rattle.promises.specs.Effects.{Effect}
 
 -- 4: the table breaks a rule
 abbrev pub NotAdmitted : Table → Type 0
@@ -92,10 +90,3 @@ recordRefusals t s code middle amount =
 
 abbrev pub refusals : Table → State → ℕ → ℕ → ℕ → List Condition
 refusals t s code middle amount = (NotAdmitted t gives 4) ∷ recordRefusals t s code middle amount
-
--- ---- an answer to one step: the number of the first condition that holds, or 0 where none does; refused, the state is the one given;
--- accepted, it is the one that the step of this code and this amount makes of it
-pub record Answered (t : Table) (s : State) (code middle amount number : ℕ) (s′ : State) : Type 0 where
-  pub first : FirstOf (refusals t s code middle amount) number
-  pub refused : ¬ (number ≡ 0) → s′ ≡ s
-  pub accepted : number ≡ 0 → (x : Step) × (codeOf x ≡ code) × (amountOf x ≡ amount) × Effect s x s′
