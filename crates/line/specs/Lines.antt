@@ -1,4 +1,5 @@
--- Document 01, "Numbers for what is refused": the line that the program prints, a word, five numbers and one line feed.
+-- Document 01, "Numbers for what is refused": the line that the program prints, a word, six numbers and one line feed. The last
+-- number, the excess, is request 4's.
 -- Assumes nothing.
 use Prim.Native.Nat.{ℕ}
 use mathlib.Core.List.{List, [], _∷_, _++_}
@@ -25,4 +26,5 @@ lineOf l =
     ++ field (l .clock)
     ++ field (l .phase)
     ++ field (l .«gear_box»)
+    ++ field (l .excess)
     ++ 10 ∷ []

@@ -1,6 +1,6 @@
-// The line that the program prints of document 01: a word, five numbers in decimal and a line feed, laid into a lent buffer.
+// The line that the program prints of document 01: a word, six numbers in decimal and a line feed, laid into a lent buffer.
 ghost use mathlib.Core.Path.{_≡_};
-ghost use mathlib.Core.List.{[], _∷_, _++_};
+ghost use mathlib.Core.List.{_++_};
 ghost use Prim.Native.Nat.{_+_, _≤_};
 ghost use lib.ListN.{length, take, drop};
 ghost use Rattle.io.specs.Counts.{Counts};
@@ -13,7 +13,7 @@ pub enum Word {
     Unread,
 }
 
-// The parts of a line in their order: the records accepted, the reason, and the state's clock, phase and box.
+// The parts of a line in their order: the records accepted, the reason, the state's clock, phase and box, and the excess.
 pub struct Line {
     pub word: Word,
     pub count: u64,
@@ -21,6 +21,7 @@ pub struct Line {
     pub clock: u32,
     pub phase: u8,
     pub gear_box: u8,
+    pub excess: u64,
 }
 
 // 0 and the line's length, or 15 and 0.
@@ -34,7 +35,7 @@ pub fn lay(line: Line, out: &mut [u8]) -> Laid
     ensures { λ r. ⌜ r ≡ laid (lineOf line) (now (out .entry)) ⌝ }
     ensures { λ _. ⌜ now (out .exit) ≡ after (lineOf line) (now (out .entry)) ⌝ }
 {
-    let mut space = [0u8; 114];
+    let mut space = [0u8; 135];
     let n = spell(line, &mut space);
     if out.len() < n {
         return Laid {
@@ -49,9 +50,9 @@ pub fn lay(line: Line, out: &mut [u8]) -> Laid
     }
 }
 
-// The line at the start of text, and its length: at most a word of 8 bytes, five numbers of a space and 20 digits, and a line feed.
+// The line at the start of text, and its length: at most a word of 8 bytes, six numbers of a space and 20 digits, and a line feed.
 fn spell(line: Line, text: &mut [u8]) -> usize
-    requires { ⌜ 114 ≤ length (now text) ⌝ }
+    requires { ⌜ 135 ≤ length (now text) ⌝ }
     ensures { λ r. ⌜ Counts r (now (text .exit)) ⌝ }
     ensures { λ r. ⌜ take r (now (text .exit)) ≡ lineOf line ⌝ }
 {
@@ -59,19 +60,20 @@ fn spell(line: Line, text: &mut [u8]) -> usize
     let at = append_word(text, word);
     let at = append_number(text, at, line.count);
     let at = append_number(text, at, line.number as u64);
-    append_state(text, at, line.clock, line.phase, line.gear_box)
+    let at = append_state(text, at, line.clock, line.phase, line.gear_box);
+    let at = append_number(text, at, line.excess);
+    append(text, at, b"\n")
 }
 
-// A state's clock, phase and box and the line feed after the first bytes of text, and the length with them.
+// A state's clock, phase and box after the first bytes of text, and the length with them.
 fn append_state(text: &mut [u8], at: usize, clock: u32, phase: u8, gear_box: u8) -> usize
-    requires { ⌜ at + 64 ≤ length (now text) ⌝ }
-    ensures { λ r. ⌜ r ≤ at + 64 ⌝ }
-    ensures { λ r. ⌜ take r (now (text .exit)) ≡ take at (now (text .entry)) ++ field clock ++ field phase ++ field «gear_box» ++ 10 ∷ [] ⌝ }
+    requires { ⌜ at + 63 ≤ length (now text) ⌝ }
+    ensures { λ r. ⌜ r ≤ at + 63 ⌝ }
+    ensures { λ r. ⌜ take r (now (text .exit)) ≡ take at (now (text .entry)) ++ field clock ++ field phase ++ field «gear_box» ⌝ }
 {
     let at = append_number(text, at, clock as u64);
     let at = append_number(text, at, phase as u64);
-    let at = append_number(text, at, gear_box as u64);
-    append(text, at, b"\n")
+    append_number(text, at, gear_box as u64)
 }
 
 // The word at the start of text, and its length.

@@ -13,8 +13,8 @@ use Rattle.promises.proofs.Runs.{counted, counted-one, goes-on, stops}
 use Rattle.shift.specs.declared.State.{State}
 use Rattle.shift.specs.declared.Answer.{Answer}
 use Rattle.shift.specs.States.{start}
-use Rattle.shift.specs.Answers.{guard, led, answer, judged}
-use Rattle.shift.proofs.AnswerLaws.{refuses}
+use Rattle.shift.specs.Answers.{guard, refused as refusedWith, judged}
+use Rattle.shift.proofs.ExcessLaws.{refused-below-9}
 use Rattle.shift.specs.Runs.{Outcome, run}
 use Rattle.stepfile.specs.declared.Refusal.{Refusal}
 use Rattle.stepfile.specs.Records.{recordsIn}
@@ -35,28 +35,27 @@ module _ (t : Table) (l : List ℕ) (s : State) (k i : ℕ) where
         ∙ ap (counted k) (goes-on t s (recordAt l i) rest a e z)
         ∙ counted-one k s (run t (a .state) rest)
 
-    pub refused : ¬ (a .number ≡ 0) → left t l s k i ≡ record { count = k; number = a .number; state = s }
+    pub refused : ¬ (a .number ≡ 0) → left t l s k i ≡ record { count = k; number = a .number; excess = a .excess; state = s }
     refused n =
         ap (λ rs. counted k (run t s rs)) (one-more l i h)
         ∙ ap (counted k) (stops t s (recordAt l i) (recordsIn (drop (i + 4) l)) a e n)
-        ∙ ap (λ c. record { count = c; number = a .number; state = s }) (add-zero k)
+        ∙ ap (λ c. record { count = c; number = a .number; excess = a .excess; state = s }) (add-zero k)
 
-  pub ended : length l ≤ i + 3 → left t l s k i ≡ record { count = k; number = 0; state = s }
+  pub ended : length l ≤ i + 3 → left t l s k i ≡ record { count = k; number = 0; excess = 0; state = s }
   ended h =
-      ap (λ rs. counted k (run t s rs)) (no-more l i h) ∙ ap (λ c. record { count = c; number = 0; state = s }) (add-zero k)
+      ap (λ rs. counted k (run t s rs)) (no-more l i h) ∙ ap (λ c. record { count = c; number = 0; excess = 0; state = s }) (add-zero k)
 
--- ---- a part whose first record is refused by this number
+-- ---- a part whose first record is refused by this number, with nothing over
 module _ (t : Table) (l : List ℕ) (s : State) where
   pub all-left : left t l s 0 0 ≡ run t s (recordsIn l)
   all-left = rw zero-add
 
   pub at-once :
-      (k : ℕ) → 3 < length l → k ≡ guard t s (recordAt l 0) → ¬ (k ≡ 0)
-      → record { number = k; rule = 0; index = 0; state = s } ≡ ofRun (run t s (recordsIn l))
-  at-once k h e n =
-      let r = recordAt l 0 in
-      let a : Answer = record { number = k; rule = 0; state = s } in
-      let answered = refuses k (led s r) s n ∙ ap (λ m. answer m (led s r) s) e in
+      (k : ℕ) → 3 < length l → k ≡ guard t s (recordAt l 0) → ¬ (k ≡ 0) → k < 9
+      → record { number = k; rule = 0; index = 0; excess = 0; state = s } ≡ ofRun (run t s (recordsIn l))
+  at-once k h e n m =
+      let a : Answer = refusedWith k 0 s in
+      let answered = refused-below-9 t s (recordAt l 0) k e n m in
       sym (ap ofRun (sym all-left ∙ refused t l s 0 0 h a answered n))
 
 -- ---- a file that is not read, and one that is

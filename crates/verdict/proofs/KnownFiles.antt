@@ -66,35 +66,35 @@ abbrev pub then-reset : List ℕ
 then-reset = headed 17 (drop 12 would-not-close ++ (12 ∷ 0 ∷ 9 ∷ 0 ∷ 13 ∷ 0 ∷ 0 ∷ 0 ∷ 3 ∷ 0 ∷ 0 ∷ 0 ∷ []))
 
 -- ---- their lines
-pub k1-prints : lineFor k1 ≡ ascii "accepted 12 0 410 0 1\n"
+pub k1-prints : lineFor k1 ≡ ascii "accepted 12 0 410 0 1 0\n"
 unfolding lineOf decimalOf tableIn
 k1-prints = refl
 
-pub k5-prints : lineFor k5 ≡ ascii "refused 4 9 150 1 0\n"
+pub k5-prints : lineFor k5 ≡ ascii "refused 4 9 150 1 0 1\n"
 unfolding lineOf decimalOf tableIn
 k5-prints = refl
 
 -- in gear, in 23 and after the reset
-pub would-not-close-prints : lineFor would-not-close ≡ ascii "accepted 14 0 151 23 1\n"
+pub would-not-close-prints : lineFor would-not-close ≡ ascii "accepted 14 0 151 23 1 0\n"
 unfolding lineOf decimalOf tableIn
 would-not-close-prints = refl
 
-pub then-reset-prints : lineFor then-reset ≡ ascii "accepted 17 0 160 17 1\n"
+pub then-reset-prints : lineFor then-reset ≡ ascii "accepted 17 0 160 17 1 0\n"
 unfolding lineOf decimalOf tableIn
 then-reset-prints = refl
 
--- ---- their verdicts: the number, the index, and the clock and the phase of the state
+-- ---- their verdicts: the number, the index, the excess, and the clock and the phase of the state
 abbrev pub told : Verdict → List ℕ
-told v = v .number ∷ v .index ∷ v .state .clock ∷ v .state .phase ∷ []
+told v = v .number ∷ v .index ∷ v .excess ∷ v .state .clock ∷ v .state .phase ∷ []
 
 pub known-files :
     map (λ f. told (verdictOf f)) (k1 ∷ k3 ∷ k4 ∷ first-of-k4 ∷ k5 ∷ k6 ∷ [])
-    ≡ (0 ∷ 12 ∷ 410 ∷ 0 ∷ [])
-    ∷ (12 ∷ 1 ∷ 0 ∷ 1 ∷ [])
-    ∷ (12 ∷ 3 ∷ 5 ∷ 1 ∷ [])
-    ∷ (0 ∷ 1 ∷ 0 ∷ 1 ∷ [])
-    ∷ (9 ∷ 4 ∷ 150 ∷ 1 ∷ [])
-    ∷ (0 ∷ 5 ∷ 151 ∷ 2 ∷ [])
+    ≡ (0 ∷ 12 ∷ 0 ∷ 410 ∷ 0 ∷ [])
+    ∷ (12 ∷ 1 ∷ 1 ∷ 0 ∷ 1 ∷ [])
+    ∷ (12 ∷ 3 ∷ 1 ∷ 5 ∷ 1 ∷ [])
+    ∷ (0 ∷ 1 ∷ 0 ∷ 0 ∷ 1 ∷ [])
+    ∷ (9 ∷ 4 ∷ 1 ∷ 150 ∷ 1 ∷ [])
+    ∷ (0 ∷ 5 ∷ 0 ∷ 151 ∷ 2 ∷ [])
     ∷ []
 unfolding tableIn
 known-files = refl

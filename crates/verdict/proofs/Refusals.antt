@@ -4,7 +4,7 @@
 use mathlib.Core.Path.{_≡_, refl, sym, ap, subst, _∙_}
 use mathlib.Core.Logic.{_⊎_, inl, ⊎-elim}
 use mathlib.Core.List.{List}
-use Prim.Native.Nat.{ℕ, _+_, _≤_}
+use Prim.Native.Nat.{ℕ, _+_, _≤_, _<_}
 use native.Mathlib.Omega.{arith}
 use lib.Dec.{eqb}
 use lib.ListN.{getD}
@@ -17,12 +17,16 @@ use Rattle.limits.specs.declared.Table.{Table}
 use Rattle.line.specs.Refusals.{LineAnswers}
 use Rattle.line.proofs.Refusals.{line-answers}
 use Rattle.promises.specs.Verdicts.{at}
+use Rattle.promises.specs.Excess.{HowFar}
 use Rattle.promises.proofs.OneStep.{refused-in-the-document's-words}
+use Rattle.promises.proofs.ExcessLaws.{how-far}
 use Rattle.shift.specs.declared.State.{State}
 use Rattle.shift.specs.declared.Reading.{Reading}
 use Rattle.shift.specs.declared.Reading.the-variants.{Means, WrongCode, WrongAmount}
 use Rattle.shift.specs.declared.Step.the-variants.{FromNeutral, GearToGear, ToNeutral, Deliver, DeviceGood, DeviceFailed, EngineWaits, Take, AskClutch, RaiseError, Finish, Tick, Reset}
-use Rattle.shift.specs.Answers.{checks, guard}
+use Rattle.shift.specs.Answers.{reading, checks, guard, led, excess}
+use Rattle.shift.proofs.Refusals.{reads}
+use Rattle.shift.proofs.ExcessLaws.{none-below-9}
 use Rattle.stepfile.specs.Files.{tableIn, refusalOf, readingsOf}
 use Rattle.stepfile.specs.Refusals.{bits16, tableBehind, fileRefusals, place}
 use Rattle.stepfile.proofs.GoodFiles.{read-there}
@@ -30,7 +34,7 @@ use Rattle.stepfile.proofs.FileRefusals.{ruled, file-answers}
 use Rattle.verdict.specs.declared.Verdict.{Verdict}
 use Rattle.verdict.specs.Verdicts.{unread, verdictOf}
 use Rattle.verdict.specs.Said.{lineFor}
-use Rattle.verdict.specs.Refusals.{refusalsAt, JudgeAnswers}
+use Rattle.verdict.specs.Refusals.{refusalsAt, HowFarAt, JudgeAnswers}
 use Rattle.verdict.proofs.Judging.{unread-file, read-verdict}
 use Rattle.verdict.proofs.Verdicts.{read-files}
 use Rattle.verdict.proofs.judge.Reads as judge-reads
@@ -63,6 +67,8 @@ module _ (f : List ℕ) where
         unread = λ _. (file .first, refl, refl);
         read = ⊎-elim (λ z. absurd (n z)) (λ l. absurd (omega arith));
         refused = λ l. absurd (omega arith);
+        how-far = λ l. absurd (omega arith);
+        none-over = λ _. refl;
         numbers = omega arith;
         rule-for = file .rule-for;
       }
@@ -91,12 +97,38 @@ module _ (f : List ℕ) where
         (ap (guard (tableIn f) (verdict .state)) (sym (read-there f z (verdict .index) (stop .0))) ∙ stop .1)
         (refused-in-the-document's-words (tableIn f) (verdict .state) (getD f there 0) (getD f (there + 1) 0) (bits16 f (there + 2)))
 
+    -- so far over, as what the record at the index means
+    over-there : ¬ (verdict .number ≡ 0) → HowFarAt f (verdict .index) (verdict .state) (verdict .number) (verdict .excess)
+    over-there n =
+        let s = verdict .state in
+        let t = tableIn f in
+        let there = place f (verdict .index) in
+        let code = getD f there 0 in
+        let middle = getD f (there + 1) 0 in
+        let amount = bits16 f (there + 2) in
+        let stop = read-files f z .refused n in
+        let same = read-there f z (verdict .index) (stop .0) in
+        let r = at (readingsOf f) (verdict .index) in
+        let far =
+        subst (λ (q : Reading). HowFar t s code amount (guard t s q) (excess t s q (guard t s q))) (sym same)
+        (how-far t s code middle amount (reading code middle amount) (reads middle amount code))
+        in
+        subst (HowFar t s code amount (verdict .number)) (sym (read-files f z .over))
+        (subst (λ (k : ℕ). HowFar t s code amount k (excess t s r k)) (stop .1) far)
+
+    none-there : verdict .number < 9 → verdict .excess ≡ 0
+    none-there l =
+        read-files f z .over
+        ∙ none-below-9 (tableIn f) (verdict .state) (led (verdict .state) (at (readingsOf f) (verdict .index)) .clock) (verdict .number) l
+
     is-read : JudgeAnswers f verdict
     is-read =
         record {
           unread = λ h. ⊎-elim (λ e. absurd (omega arith)) (λ b. absurd (omega arith)) read-numbers;
           read = λ _. (subst (FirstOf (fileRefusals f)) z (file-answers f .first), read-files f z);
           refused = λ l. refused-there (λ e. omega arith);
+          how-far = λ l. over-there (λ e. omega arith);
+          none-over = none-there;
           numbers = ⊎-elim (λ e. omega arith) (λ b. b .1) read-numbers;
           rule-for =
               ruled (tableBehind f) (verdict .number) (verdict .rule)

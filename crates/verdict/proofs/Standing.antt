@@ -18,14 +18,15 @@ use Rattle.shift.specs.declared.Step.{Step}
 use Rattle.shift.specs.declared.Step.the-variants.{Tick}
 use Rattle.shift.specs.declared.Reading.{Reading}
 use Rattle.shift.specs.declared.Reading.the-variants.{Means, WrongCode, WrongAmount}
-use Rattle.shift.specs.Steps.{allowed, ticked, effect}
-use Rattle.shift.specs.Answers.{refusal, listed, checksOf, led, refused as refusedWith, answer}
+use Rattle.shift.specs.Steps.{allowed, ticked}
+use Rattle.shift.specs.Excess.{excessBy}
+use Rattle.shift.specs.Answers.{refusal, listed, checksOf, refused as refusedWith, answerTo}
 use Rattle.shift.specs.Runs.{run}
 use Rattle.shift.proofs.AnswerLaws.{refuses, accepts, no-step}
 use Rattle.shift.proofs.ListedLaws.{judged-as-listed, accepted-listed}
 use Rattle.shift.proofs.Reading.{the-type}
-use Rattle.deadlines.specs.Deadlines.{phaseEnd, deadlineBy, deadline, lateBy}
-use Rattle.deadlines.proofs.DeadlineLaws.{in-time, too-late, late-is-refused}
+use Rattle.deadlines.specs.Deadlines.{phaseEnd, deadlineBy, deadline, lateBy, overBy}
+use Rattle.deadlines.proofs.DeadlineLaws.{in-time, too-late, so-far-over, late-is-refused}
 use Rattle.stepfile.specs.Records.{recordsIn}
 use Rattle.stepfile.proofs.RecordLaws.{recordAt}
 use Rattle.verdict.specs.Verdicts.{ofRun}
@@ -60,18 +61,22 @@ pub record Stands (t : Table) (bytes : List ℕ) (begin : State) (count : ℕ) (
   pub rest : run t begin (recordsIn bytes) ≡ left t bytes s index (4 * index)
 
 module _ (t : Table) (bytes : List ℕ) (begin : State) (count : ℕ) (s : State) (index : ℕ) (h : Stands t bytes begin count s index) where
+  -- the answer to what was read in a state that is listed
+  abbrev answer-to : Reading → Answer
+  answer-to r = answerTo t s r (first (checksOf (allowed t s) r))
+
   -- what the next record means, and the answer to it
   abbrev record-is : Reading
   record-is = recordAt bytes (4 * index)
 
   abbrev answer-is : Answer
-  answer-is = answer (first (checksOf (allowed t s) record-is)) (led s record-is) s
+  answer-is = answer-to record-is
 
   module _ (more : index < count) where
     -- it is refused, and the loop is left
     pub stops :
         (a : Answer) → a ≡ answer-is → ¬ (a .number ≡ 0)
-        → ofRun (record { count = index; number = a .number; state = s }) ≡ ofRun (run t begin (recordsIn bytes))
+        → ofRun (record { count = index; number = a .number; excess = a .excess; state = s }) ≡ ofRun (run t begin (recordsIn bytes))
     stops a e n =
         let w = h .whole in
         let here = e ∙ judged-as-listed t s record-is (h .in-list) in
@@ -97,10 +102,9 @@ module _ (t : Table) (bytes : List ℕ) (begin : State) (count : ℕ) (s : State
     -- what is no step is refused by its own number
     pub no-step-stops :
         (r : Reading) → r ≡ record-is → OneOf (1 ∷ 2 ∷ []) (tagOf the-type r)
-        → ofRun (record { count = index; number = refusal r; state = s }) ≡ ofRun (run t begin (recordsIn bytes))
+        → ofRun (record { count = index; number = refusal r; excess = 0; state = s }) ≡ ofRun (run t begin (recordsIn bytes))
     no-step-stops r e o =
-        let answered = no-step (allowed t s) s r o in
-        stops (refusedWith (refusal r) s) (answered ∙ ap (λ (q : Reading). answer (first (checksOf (allowed t s) q)) (led s q) s) e) (no-zero r o)
+        stops (refusedWith (refusal r) 0 s) (no-step (allowed t s) t s r o ∙ ap answer-to e) (no-zero r o)
       where
         no-zero : (r : Reading) → OneOf (1 ∷ 2 ∷ []) (tagOf the-type r) → ¬ (refusal r ≡ 0)
         no-zero (Means x) o z = absurd (⊎-elim (λ e. omega arith) (λ e. omega arith) o)
@@ -109,29 +113,33 @@ module _ (t : Table) (bytes : List ℕ) (begin : State) (count : ℕ) (s : State
 
     -- a step is judged
     module _ (x : Step) (e : record-is ≡ Means x) where
-      pub as-step : answer (first (allowed t s x)) (effect s x) s ≡ answer-is
-      as-step = sym (ap (λ (q : Reading). answer (first (checksOf (allowed t s) q)) (led s q) s) e)
+      pub as-step : answerTo t s (Means x) (first (allowed t s x)) ≡ answer-is
+      as-step = sym (ap answer-to e)
 
     -- a tick up to the deadline is accepted, and one past it is refused
     module _ (n : ℕ) (e : record-is ≡ Means (Tick n)) where
       pub tick-leads : s .clock + n ≤ deadline t s → Stands t bytes begin count (ticked n s) (index + 1)
       tick-leads l =
-          let a : Answer = record { number = 0; rule = 0; state = ticked n s } in
-          leads a (accepts (first (allowed t s (Tick n))) (ticked n s) s (in-time t s (s .clock + n) l) ∙ as-step (Tick n) e) refl
+          let a : Answer = record { number = 0; rule = 0; excess = 0; state = ticked n s } in
+          leads a (accepts (first (allowed t s (Tick n))) _ (ticked n s) s (in-time t s (s .clock + n) l) ∙ as-step (Tick n) e) refl
 
       pub tick-stops :
           deadline t s < s .clock + n
-          → (let k = lateBy (deviceLimit t (orderOf (s .phase))) (t .«channel_dl») s (s .clock + n) in
-          ofRun (record { count = index; number = k; state = s }) ≡ ofRun (run t begin (recordsIn bytes)))
+          → (let now = s .clock + n in
+          let device = deviceLimit t (orderOf (s .phase)) in
+          let k = lateBy device (t .«channel_dl») s now in
+          ofRun (record { count = index; number = k; excess = overBy (phaseEnd t s) device (t .«channel_dl») s now k; state = s })
+          ≡ ofRun (run t begin (recordsIn bytes)))
       tick-stops l =
           let now = s .clock + n in
           let device = deviceLimit t (orderOf (s .phase)) in
           let k = lateBy device (t .«channel_dl») s now in
           let late = late-is-refused device (t .«channel_dl») s now in
-          stops (refusedWith k s)
-          (refuses k (ticked n s) s late ∙ ap (λ m. answer m (ticked n s) s) (too-late t s now l) ∙ as-step (Tick n) e)
+          ap (λ over. ofRun (record { count = index; number = k; excess = over; state = s })) (so-far-over t s now l)
+          ∙ stops (refusedWith k (excessBy t s now k) s)
+          (refuses k (excessBy t s now k) (ticked n s) s late ∙ ap (answerTo t s (Means (Tick n))) (too-late t s now l) ∙ as-step (Tick n) e)
           late
 
   -- there is no record left
-  pub ends : count ≤ index → ofRun (record { count = index; number = 0; state = s }) ≡ ofRun (run t begin (recordsIn bytes))
+  pub ends : count ≤ index → ofRun (record { count = index; number = 0; excess = 0; state = s }) ≡ ofRun (run t begin (recordsIn bytes))
   ends none = let o = h .over in sym (ap ofRun (h .rest ∙ ended t bytes s index (4 * index) (omega arith)))

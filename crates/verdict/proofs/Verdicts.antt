@@ -21,7 +21,7 @@ use Rattle.verdict.proofs.Judging.{unread-file, read-verdict}
 
 -- what a verdict says of the records
 abbrev pub outcome : Verdict → Outcome
-outcome v = record { count = v .index; number = v .number; state = v .state }
+outcome v = record { count = v .index; number = v .number; excess = v .excess; state = v .state }
 
 module _ (f : List ℕ) where
   -- a file that is not read: the file's own refusal, index 0 and the start state

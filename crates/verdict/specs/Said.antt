@@ -15,7 +15,7 @@ use Rattle.verdict.specs.Verdicts.{verdictOf}
 abbrev pub wordFor : ℕ → Word
 wordFor number = cond (eqb number 0) Accepted (cond (leb number 4) Unread Refused)
 
--- the word, then records accepted, reason, clock, phase and box
+-- the word, then records accepted, reason, clock, phase, box and how far over
 abbrev pub said : Verdict → Line
 said v = record {
   word = wordFor (v .number);
@@ -24,6 +24,7 @@ said v = record {
   clock = v .state .clock;
   phase = v .state .phase;
   «gear_box» = v .state .«gear_box»;
+  excess = v .excess;
 }
 
 abbrev pub lineFor : List ℕ → List ℕ

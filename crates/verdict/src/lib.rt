@@ -20,12 +20,14 @@ use shift::Reading;
 use shift::State;
 use shift::Step;
 
-// Accepted, number 0, with the end state and the number of records; or refused with the number, the index of the refused record and
-// the state before it. With 1 to 4 the index is 0 and the state the start; the rule is 0 except with 4.
+// Accepted, number 0, with the end state and the number of records; or refused with the number, the index of the refused record, how
+// far over it is and the state before it. With 1 to 4 the index is 0 and the state the start; the rule is 0 except with 4.
+#[repr(C)]
 pub struct Verdict {
     pub number: u8,
     pub rule: u8,
     pub index: usize,
+    pub excess: u64,
     pub state: State,
 }
 
@@ -40,6 +42,7 @@ pub fn judge(file: &[u8]) -> Verdict
             number: refusal.number,
             rule: refusal.rule,
             index: 0,
+            excess: 0,
             state,
         };
     }
@@ -74,6 +77,7 @@ impl Verdict {
             clock: state.clock,
             phase: state.phase,
             gear_box: state.gear_box,
+            excess: self.excess,
         }
     }
 }
@@ -120,6 +124,7 @@ fn judge_unlisted(state: State, unlisted: u8, records: &[u8]) -> Verdict
             number: 0,
             rule: 0,
             index: 0,
+            excess: 0,
             state,
         };
     }
@@ -129,6 +134,7 @@ fn judge_unlisted(state: State, unlisted: u8, records: &[u8]) -> Verdict
         number,
         rule: 0,
         index: 0,
+        excess: 0,
         state,
     }
 }
@@ -159,13 +165,13 @@ fn judge_listed(begin: State, table: Table, limits: &[u16; 18], records: &[u8]) 
     while index < count {
         let reading = record_at(records, 4 * index);
         let Reading::Means(x) = reading else {
-            return answered(reading.refusal(), index, state);
+            return answered(reading.refusal(), index, 0, state);
         };
         let Step::Tick(amount) = x else {
             let answer = state.judged_step(table, x);
             let number = answer.number;
             if number != 0 {
-                return answered(number, index, state);
+                return answered(number, index, answer.excess, state);
             }
             state = answer.state;
             if deadlines::enters(x) {
@@ -179,22 +185,24 @@ fn judge_listed(begin: State, table: Table, limits: &[u16; 18], records: &[u8]) 
         let clock = later(state.clock, amount);
         if deadline < clock {
             let number = deadlines::late(state, clock, device, channel);
-            return answered(number, index, state);
+            let over = deadlines::over(state, clock, number, phase_end, device, channel);
+            return answered(number, index, over, state);
         }
         state = clocked(state, clock);
         index += 1;
     }
-    answered(0, index, state)
+    answered(0, index, 0, state)
 }
 
-// The verdict where so many records were accepted, and the next is refused with this number, or with 0 there is none.
-fn answered(number: u8, index: usize, state: State) -> Verdict
-    ensures { λ r. ⌜ r ≡ ofRun (record { count = index; number = number; state = state }) ⌝ }
+// The verdict where so many records were accepted, and the next is refused with this number and so far over, or with 0 there is none.
+fn answered(number: u8, index: usize, excess: u64, state: State) -> Verdict
+    ensures { λ r. ⌜ r ≡ ofRun (record { count = index; number = number; excess = excess; state = state }) ⌝ }
 {
     Verdict {
         number,
         rule: 0,
         index,
+        excess,
         state,
     }
 }

@@ -1,4 +1,4 @@
--- `append_state` meets its contract: three numbers and the line feed, each after the text so far.
+-- `append_state` meets its contract: three numbers, each after the text so far.
 -- Assumes nothing.
 use native.Mathlib.Omega.{arith}
 use borrow.Author.Needs.{needs}
@@ -7,11 +7,11 @@ use Rattle.line.proofs.append_state.Tie as tie
 
 returns : tie.Need-returns
 returns c =
-    let b = c .before .before .before .before .before .before .before in
+    let b = c .before .before in
     let p = b .before .before .before .before in
     let t = p .before .before .before .before in (
       omega (arith, t .append-number .ensures .0),
-      rw (c .before .before .append .ensures .1 .1, b .append-number3 .ensures .1, p .append-number2 .ensures .1, t .append-number .ensures .1),
+      rw (b .append-number3 .ensures .1, p .append-number2 .ensures .1, t .append-number .ensures .1),
     )
 
 pub append-state-spec : {M : Type 1} → statement M
@@ -20,8 +20,6 @@ append-state-spec =
     (tie.spec
     (λ c κs. search needs)
     (λ c κs. search needs)
-    (λ c κs. search needs)
-    (λ c. search needs)
     (λ c κs. search needs)
     (λ c. search needs)
     returns)

@@ -1,4 +1,4 @@
--- `spell` meets its contract: the word, two numbers and the state, each after the text so far.
+-- `spell` meets its contract: the word, two numbers, the state, the excess and the line feed, each after the text so far.
 -- Assumes nothing.
 use Prim.Native.Nat.{_≤_}
 use mathlib.Core.Path.{sym}
@@ -13,13 +13,15 @@ use Rattle.line.proofs.spell.Tie as tie
 returns : tie.Need-returns
 unfolding lineOf
 returns c =
-    let s = c .before .before in
+    let e = c .before .before in
+    let x = e .before .before .before .before .before in
+    let s = x .before .before .before .before in
     let n = s .before .before .before .before in
     let k = n .before .before .before .before .before in
     let w = k .before .before .before .before in
-    let fits : s .append-state .result ≤ length (s .append-state .last .0) = omega (arith, w .append-word .ensures .0, w .append-word .kept, w .before .before .before .pre) in (
-      (fits, sym (length-take-le (s .append-state .result) (s .append-state .last .0) fits)),
-      rw (s .append-state .ensures .1, n .append-number2 .ensures .1, k .append-number .ensures .1, w .append-word .ensures .1),
+    let fits : e .append .result ≤ length (e .append .last .0) = omega (arith, w .append-word .ensures .0, w .append-word .kept, w .before .before .before .pre) in (
+      (fits, sym (length-take-le (e .append .result) (e .append .last .0) fits)),
+      rw (e .append .ensures .1 .1, x .append-number3 .ensures .1, s .append-state .ensures .1, n .append-number2 .ensures .1, k .append-number .ensures .1, w .append-word .ensures .1),
     )
 
 pub spell-spec : {M : Type 1} → statement M
@@ -30,6 +32,9 @@ spell-spec =
     (λ c κs. search needs)
     (λ c. search needs)
     (λ c κs. search needs)
+    (λ c κs. search needs)
+    (λ c κs. search needs)
+    (λ c. search needs)
     (λ c κs. search needs)
     (λ c. search needs)
     returns)

@@ -13,7 +13,7 @@ returns : tie.Need-returns
 returns c =
     let file = c .before .before .before .before .before .args .file .now in
     let r = c .before .before .before .refused in
-    ap (λ (s : State). record { number = r .result .number; rule = r .result .rule; index = 0; state = s }) (c .start .ensures)
+    ap (λ (s : State). record { number = r .result .number; rule = r .result .rule; index = 0; excess = 0; state = s }) (c .start .ensures)
     ∙ ap unread (r .ensures)
     ∙ unread-file file (λ z. c .before .if1 .taken (ap (λ (q : Refusal). q .number) (r .ensures) ∙ z))
 

@@ -15,7 +15,7 @@ use Rattle.shift.specs.declared.Reading.the-variants.{Means}
 use Rattle.shift.specs.Steps.{allowed, ticked, effect}
 use Rattle.shift.specs.Answers.{listed}
 use Rattle.shift.proofs.ListedLaws.{led-to}
-use Rattle.deadlines.specs.Deadlines.{phaseEnd, deadline, lateBy}
+use Rattle.deadlines.specs.Deadlines.{phaseEnd, deadline, lateBy, overBy}
 use Rattle.deadlines.proofs.DeadlineLaws.{fits, keeps}
 use Rattle.verdict.specs.Verdicts.{ofRun}
 use Rattle.verdict.proofs.Judging.{all-left}
@@ -62,7 +62,7 @@ returns c =
     let a = c .before .before .before .before .before .before .before .before .before .before .args in
     let read = c .before .before .before .record-at in
     c .answered .ensures
-    ∙ ap (λ k. ofRun (record { count = l .index; number = k; state = l .state })) (c .before .refusal .ensures)
+    ∙ ap (λ k. ofRun (record { count = l .index; number = k; excess = 0; state = l .state })) (c .before .refusal .ensures)
     ∙ no-step-stops (a .table) (a .records .now) (a .begin) _ (l .state) (l .index) (l .inv .0) (c .before .before .before .before .loop-test .taken) (read .result) (read .ensures) (c .before .before .match .keys2)
 
 returns-2 : tie.Need-returns-2 Inv-loop μ-loop
@@ -95,7 +95,7 @@ loop-again c =
     let here = answer .ensures ∙ as-step t (a .records .now) (a .begin) _ s (l .index) (l .inv .0) more x is-x in
     let to : next ≡ effect s x =
     ap (λ (q : Answer). q .state) (answer .ensures)
-    ∙ led-to (first (allowed t s x)) (effect s x) s (sym (ap (λ (q : Answer). q .number) (answer .ensures)) ∙ none)
+    ∙ led-to (first (allowed t s x)) _ (effect s x) s (sym (ap (λ (q : Answer). q .number) (answer .ensures)) ∙ none)
     in
     let enters = c .before .before .enters .ensures in
     let end : c .before .if2 .phase-end ≡ phaseEnd t next =
@@ -119,28 +119,41 @@ loop-again c =
 
 returns-3 : tie.Need-returns-3 Inv-loop μ-loop
 returns-3 c =
-    let l = c .before .before .before .before .before .before .before .before .before .before .before .before .loop in
-    let a = c .before .before .before .before .before .before .before .before .before .before .before .before .before .before .before .before .before .args in
+    let l = c .before .before .before .before .before .before .before .before .before .before .before .before .before .loop in
+    let a = c .before .before .before .before .before .before .before .before .before .before .before .before .before .before .before .before .before .before .args in
     let t = a .table in
     let s = l .state in
-    let more = c .before .before .before .before .before .before .before .before .before .before .before .loop-test .taken in
-    let given = c .before .before .before .before .before .before .before .before .reading .given in
-    let tick = c .before .before .before .before .before .x .given in
+    let more = c .before .before .before .before .before .before .before .before .before .before .before .before .loop-test .taken in
+    let given = c .before .before .before .before .before .before .before .before .before .reading .given in
+    let tick = c .before .before .before .before .before .before .x .given in
     let n = tick .0 .0 in
     let is-tick =
-    sym (c .before .before .before .before .before .before .before .before .before .before .record-at .ensures) ∙ given .1 ∙ ap Means (tick .1)
+    sym (c .before .before .before .before .before .before .before .before .before .before .before .record-at .ensures) ∙ given .1 ∙ ap Means (tick .1)
     in
-    let later = c .before .before .before .later in
+    let later = c .before .before .before .before .later in
     let late : deadline t s < s .clock + n =
-    subst (λ k. deadline t s < k) (later .ensures) (subst (λ d. d < later .result) (l .inv .1 .last-is) (c .before .before .if3 .taken))
+    subst (λ k. deadline t s < k) (later .ensures) (subst (λ d. d < later .result) (l .inv .1 .last-is) (c .before .before .before .if3 .taken))
     in
     let number =
-    c .before .late .ensures
+    c .before .before .late .ensures
     ∙ ap (λ d. lateBy d (t .«channel_dl») s (later .result)) (l .inv .1 .device-is)
     ∙ ap (lateBy (deviceLimit t (orderOf (s .phase))) (t .«channel_dl») s) (later .ensures)
     in
+    let k = c .before .before .late .result in
+    let over : c .before .over .result ≡ overBy (phaseEnd t s) (deviceLimit t (orderOf (s .phase))) (t .«channel_dl») s (s .clock + n) k =
+    c .before .over .ensures
+    ∙ ap (λ e. overBy e (l .device) (t .«channel_dl») s (later .result) k) (l .inv .1 .end-is)
+    ∙ ap (λ d. overBy (phaseEnd t s) d (t .«channel_dl») s (later .result) k) (l .inv .1 .device-is)
+    ∙ ap (λ m. overBy (phaseEnd t s) (deviceLimit t (orderOf (s .phase))) (t .«channel_dl») s m k) (later .ensures)
+    in
     c .answered3 .ensures
-    ∙ ap (λ k. ofRun (record { count = l .index; number = k; state = s })) number
+    ∙ ap (λ e. ofRun (record { count = l .index; number = k; excess = e; state = s })) over
+    ∙ ap (λ m. ofRun (record {
+      count = l .index;
+      number = m;
+      excess = overBy (phaseEnd t s) (deviceLimit t (orderOf (s .phase))) (t .«channel_dl») s (s .clock + n) m;
+      state = s;
+    })) number
     ∙ tick-stops t (a .records .now) (a .begin) _ s (l .index) (l .inv .0) more n is-tick late
 
 clocked-requires : tie.Need-clocked-requires Inv-loop μ-loop
@@ -215,6 +228,7 @@ judge-listed-spec =
     record { fits = omega arith })
     (λ c. let more = c .before .before .before .before .before .before .before .before .before .before .before .loop-test .taken in omega arith)
     loop-again
+    (λ _ _. tt)
     (λ _ _. tt)
     (λ _ _. tt)
     (λ _ _. tt)

@@ -1,9 +1,11 @@
 -- `judge_unlisted` meets its contract: there is no record, or the first is refused.
 -- Assumes nothing.
-use mathlib.Core.Path.{sym, ap, _∙_}
+use mathlib.Core.Path.{sym, ap, subst, _∙_}
+use Prim.Native.Nat.{_<_}
 use native.Mathlib.Omega.{arith}
 use borrow.Author.Tests.{eq-eqb, ne-eqb}
 use Rattle.shift.proofs.ListedLaws.{kept-out}
+use Rattle.shift.proofs.ExcessLaws.{refusal-below-9, unlisted-below-9}
 use Rattle.stepfile.proofs.RecordLaws.{recordAt}
 use Rattle.verdict.specs.Verdicts.{ofRun}
 use Rattle.verdict.proofs.Judging.{all-left, at-once, ended}
@@ -23,6 +25,7 @@ returns-2 c t =
     let step = eq-eqb _ 0 (sym (c .before .record-refusal .ensures) ∙ c .if2 .taken) in
     let number = pre .0 ∙ sym (kept-out t (a .state) r (λ z. pre .1 (pre .0 ∙ z)) ∙ rw step) in
     at-once t (a .records .now) (a .state) (a .unlisted) (omega arith) number (pre .1)
+    (subst (λ k. k < 9) (sym (pre .0)) (unlisted-below-9 (a .state)))
 
 returns-3 : tie.Need-returns-3
 returns-3 c t =
@@ -33,6 +36,7 @@ returns-3 c t =
     let none = ne-eqb _ 0 (λ z. c .if2 .left (wrong .ensures ∙ z)) in
     let number = wrong .ensures ∙ sym (kept-out t (a .state) r (λ z. pre .1 (pre .0 ∙ z)) ∙ rw none) in
     at-once t (a .records .now) (a .state) (wrong .result) (omega arith) number (c .if2 .left)
+    (subst (λ k. k < 9) (sym (wrong .ensures)) (refusal-below-9 r))
 
 pub judge-unlisted-spec : {M : Type 1} → statement M
 judge-unlisted-spec =
