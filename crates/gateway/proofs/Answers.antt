@@ -10,7 +10,7 @@ use Rattle.limits.specs.declared.Table.{Table}
 use Rattle.shift.specs.declared.State.{State}
 use Rattle.shift.specs.declared.Answer.{Answer}
 use Rattle.limits.specs.Refusals.{broken}
-use Rattle.promises.specs.Refusals.{Answered}
+use Rattle.promises.specs.Answered.{Answered}
 use Rattle.promises.proofs.AnswerLaws.{answered, with-its-rule}
 use Rattle.gateway.specs.Advancing.{advancedOn}
 use Rattle.gateway.proofs.advanced as advanced-call
@@ -19,7 +19,7 @@ use Rattle.gateway.proofs.advanced.Reads as advanced-reads
 -- a record is answered as one step is, of its code, its middle byte and its amount
 module _ (t : Table) (s : State) (code middle low high : ℕ) where
   pub a-record :
-      Answered t s code middle (low + 256 * high) (advancedOn t s code middle low high .number) (advancedOn t s code middle low high .state)
+      Answered t s code middle (low + 256 * high) (advancedOn t s code middle low high .number) (advancedOn t s code middle low high .excess) (advancedOn t s code middle low high .state)
   unfolding advancedOn
   a-record = answered t s code middle (low + 256 * high)
 
@@ -48,9 +48,9 @@ module _
 
   -- the number is the first whose condition holds, and 0 where none does; refused, the state is the one given; accepted, it is the
   -- one that the step makes of it
-  pub a-record-is-answered-in-the-document's-words : Answered table state code middle amount (a .number) (a .state)
+  pub a-record-is-answered-in-the-document's-words : Answered table state code middle amount (a .number) (a .excess) (a .state)
   a-record-is-answered-in-the-document's-words =
-      subst (λ (q : Answer). Answered table state code middle amount (q .number) (q .state)) (sym call) (a-record table state code middle _ _)
+      subst (λ (q : Answer). Answered table state code middle amount (q .number) (q .excess) (q .state)) (sym call) (a-record table state code middle _ _)
 
   pub a-record-names-the-first-broken-rule : FirstOf (broken table) (a .rule)
   a-record-names-the-first-broken-rule =

@@ -21,7 +21,7 @@ use Rattle.limits.proofs.Refusals as limits
 use Rattle.shift.specs.declared.State.{State}
 use Rattle.shift.specs.declared.Answer.{Answer}
 use Rattle.shift.specs.Runs.{Outcome, after}
-use Rattle.promises.specs.Refusals.{Answered}
+use Rattle.promises.specs.Answered.{Answered}
 use Rattle.verdict.specs.declared.Verdict.{Verdict}
 use Rattle.verdict.proofs.Verdicts.{outcome}
 use Rattle.gateway.specs.Advancing.{advancedOn, advancing, blockOn}
@@ -31,16 +31,16 @@ use Rattle.gateway.proofs.advanced_block as advanced-block-call
 use Rattle.gateway.proofs.advanced_block.Reads as advanced-block-reads
 
 -- The records before the index are accepted one by one and lead to the state. Where the number is not 0, the record at the index is
--- refused by it on that state, in the document's words; where it is 0, there is no record at the index.
-pub record BlockAnswered (t : Table) (s : State) (l : List ℕ) (number index : ℕ) (s′ : State) : Type 0 where
-  pub accepted : advancing t s (take (4 * index) l) ≡ record { count = index; number = 0; state = s′ }
+-- refused by it on that state and so far over, in the document's words; where it is 0, there is no record at the index.
+pub record BlockAnswered (t : Table) (s : State) (l : List ℕ) (number index excess : ℕ) (s′ : State) : Type 0 where
+  pub accepted : advancing t s (take (4 * index) l) ≡ record { count = index; number = 0; excess = 0; state = s′ }
   pub refused :
       ¬ (number ≡ 0)
       → (4 * index + 3 < length l)
-      × Answered t s′ (getD l (4 * index) 0) (getD l (4 * index + 1) 0) (getD l (4 * index + 2) 0 + 256 * getD l (4 * index + 3) 0) number s′
-  pub whole : number ≡ 0 → (4 * index ≤ length l) × (length l < 4 * index + 4)
+      × Answered t s′ (getD l (4 * index) 0) (getD l (4 * index + 1) 0) (getD l (4 * index + 2) 0 + 256 * getD l (4 * index + 3) 0) number excess s′
+  pub whole : number ≡ 0 → (4 * index ≤ length l) × (length l < 4 * index + 4) × (excess ≡ 0)
 
-no-more : (t : Table) (s : State) (l : List ℕ) → length l < 4 → BlockAnswered t s l 0 0 s
+no-more : (t : Table) (s : State) (l : List ℕ) → length l < 4 → BlockAnswered t s l 0 0 0 s
 no-more t s l h = record { accepted = refl; refused = λ n. absurd (n refl); whole = λ _. omega arith }
 
 module _ (t : Table) (s : State) (a b c d : ℕ) (l : List ℕ) where
@@ -48,8 +48,8 @@ module _ (t : Table) (s : State) (a b c d : ℕ) (l : List ℕ) where
   x = advancedOn t s a b c d
 
   goes-on :
-      (k : ℕ) (o : Outcome) → x .number ≡ k → BlockAnswered t (x .state) l (o .number) (o .count) (o .state)
-      → (let p = after k s o in BlockAnswered t s (a ∷ b ∷ c ∷ d ∷ l) (p .number) (p .count) (p .state))
+      (k : ℕ) (o : Outcome) → x .number ≡ k → BlockAnswered t (x .state) l (o .number) (o .count) (o .excess) (o .state)
+      → (let p = after k (x .excess) s o in BlockAnswered t s (a ∷ b ∷ c ∷ d ∷ l) (p .number) (p .count) (p .excess) (p .state))
   goes-on zero o e h =
       let there : 4 * suc (o .count) ≡ suc (suc (suc (suc (4 * o .count)))) = omega arith in
       record {
@@ -70,7 +70,7 @@ module _ (t : Table) (s : State) (a b c d : ℕ) (l : List ℕ) where
 
 pub where-a-block-stops :
     (t : Table) (s : State) (l : List ℕ)
-    → (let v = blockOn t s l in BlockAnswered t s l (v .number) (v .index) (v .state))
+    → (let v = blockOn t s l in BlockAnswered t s l (v .number) (v .index) (v .excess) (v .state))
 unfolding blockOn
 where-a-block-stops t s [] = no-more t s [] (omega arith)
 where-a-block-stops t s (a ∷ []) = no-more t s (a ∷ []) (omega arith)
@@ -109,9 +109,9 @@ module _
   pub a-block-is-answered-as-its-records-one-by-one : outcome v ≡ advancing table state records
   a-block-is-answered-as-its-records-one-by-one = ap outcome call ∙ a-block-is-its-records-one-by-one table state records
 
-  pub a-block-is-answered-in-the-document's-words : BlockAnswered table state records (v .number) (v .index) (v .state)
+  pub a-block-is-answered-in-the-document's-words : BlockAnswered table state records (v .number) (v .index) (v .excess) (v .state)
   a-block-is-answered-in-the-document's-words =
-      subst (λ (w : Verdict). BlockAnswered table state records (w .number) (w .index) (w .state)) (sym call)
+      subst (λ (w : Verdict). BlockAnswered table state records (w .number) (w .index) (w .excess) (w .state)) (sym call)
       (where-a-block-stops table state records)
 
   pub a-block-names-the-first-broken-rule : 4 ≤ length records → Ruled table v

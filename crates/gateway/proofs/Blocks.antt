@@ -11,8 +11,8 @@ use lib.ListN.{length}
 use Rattle.limits.specs.declared.Table.{Table}
 use Rattle.limits.specs.Rules.{brokenRule}
 use Rattle.shift.specs.declared.State.{State}
-use Rattle.shift.specs.Answers.{guard, led, answer, judged, admitting}
-use Rattle.shift.specs.Runs.{Outcome, after, run}
+use Rattle.shift.specs.Answers.{guard, led, excess, answer, judged, admitting}
+use Rattle.shift.specs.Runs.{Outcome, ended, after, run}
 use Rattle.shift.proofs.AnswerLaws.{breaks}
 use Rattle.promises.proofs.Runs.{resumed, joined}
 use Rattle.stepfile.specs.Records.{recordOf, recordsIn}
@@ -21,7 +21,7 @@ use Rattle.verdict.proofs.Verdicts.{outcome}
 use Rattle.gateway.specs.Advancing.{advancedOn, advancing, blockOn}
 use Rattle.gateway.proofs.Running.{one-by-one}
 
--- of a block the count, the number and the state are those of its records one by one, whatever the table
+-- of a block the count, the number, the excess and the state are those of its records one by one, whatever the table
 pub a-block-is-its-records-one-by-one : (t : Table) (s : State) (l : List ℕ) → outcome (blockOn t s l) ≡ advancing t s l
 unfolding blockOn
 a-block-is-its-records-one-by-one t s l = refl
@@ -37,7 +37,7 @@ unfolding blockOn
 admitted t s l z = rw (← one-by-one t s l z, z, no-rule (eqb (advancing t s l .number) 4))
 
 pub no-record :
-    (t : Table) (s : State) (l : List ℕ) → length l < 4 → record { number = 0; rule = 0; index = 0; state = s } ≡ blockOn t s l
+    (t : Table) (s : State) (l : List ℕ) → length l < 4 → record { number = 0; rule = 0; index = 0; excess = 0; state = s } ≡ blockOn t s l
 unfolding blockOn
 no-record t s [] h = refl
 no-record t s (a ∷ []) h = refl
@@ -47,7 +47,7 @@ no-record t s (a ∷ b ∷ c ∷ d ∷ l) h = absurd (omega arith)
 
 pub not-admitted :
     (t : Table) (s : State) (l : List ℕ) → ¬ (brokenRule t ≡ 0) → 4 ≤ length l
-    → record { number = 4; rule = brokenRule t; index = 0; state = s } ≡ blockOn t s l
+    → record { number = 4; rule = brokenRule t; index = 0; excess = 0; state = s } ≡ blockOn t s l
 unfolding blockOn advancedOn
 not-admitted t s [] n h = absurd (omega arith)
 not-admitted t s (a ∷ []) n h = absurd (omega arith)
@@ -57,34 +57,36 @@ not-admitted t s (a ∷ b ∷ c ∷ d ∷ l) n h = rw (← breaks (brokenRule t)
 
 -- a block of one record is the answer to it
 of-one :
-    (k g : ℕ) (next s : State)
-    → (let a = admitting k (answer g next s) s in
-    let o = after (a .number) s (record { count = 0; number = 0; state = a .state }) in
-    record { number = o .number; rule = cond (eqb (o .number) 4) k 0; state = o .state })
-    ≡ admitting k (answer g next s) s
-of-one zero zero next s = refl
-of-one zero (suc g) next s = rw (no-rule (eqb (suc g) 4))
-of-one (suc k) g next s = refl
+    (k g over : ℕ) (next s : State)
+    → (let a = admitting k (answer g over next s) s in
+    let o = after (a .number) (a .excess) s (ended (a .state)) in
+    record { number = o .number; rule = cond (eqb (o .number) 4) k 0; excess = o .excess; state = o .state })
+    ≡ admitting k (answer g over next s) s
+of-one zero zero over next s = refl
+of-one zero (suc g) over next s = rw (no-rule (eqb (suc g) 4))
+of-one (suc k) g over next s = refl
 
 pub a-block-of-one-record :
     (t : Table) (s : State) (a b c d : ℕ)
-    → (let v = blockOn t s (a ∷ b ∷ c ∷ d ∷ []) in record { number = v .number; rule = v .rule; state = v .state })
+    → (let v = blockOn t s (a ∷ b ∷ c ∷ d ∷ []) in record { number = v .number; rule = v .rule; excess = v .excess; state = v .state })
     ≡ advancedOn t s a b c d
 unfolding blockOn advancedOn
-a-block-of-one-record t s a b c d = let r = recordOf a b c d in of-one (brokenRule t) (guard t s r) (led s r) s
+a-block-of-one-record t s a b c d =
+    let r = recordOf a b c d in
+    of-one (brokenRule t) (guard t s r) (excess t s r (guard t s r)) (led s r) s
 
 -- ---- a block cut in two behind a record: the first part's outcome where it is refused, else the second's from the state that the
 -- first leads to, with the counts added
 
 resumes :
-    (s : State) (k : ℕ) (a : Outcome) (rest : State → Outcome)
-    → after k s (joined a (rest (a .state))) ≡ joined (after k s a) (rest (after k s a .state))
-resumes s zero a rest = go (a .number)
+    (s : State) (k over : ℕ) (a : Outcome) (rest : State → Outcome)
+    → after k over s (joined a (rest (a .state))) ≡ joined (after k over s a) (rest (after k over s a .state))
+resumes s zero over a rest = go (a .number)
   where
-    go : (n : ℕ) → after 0 s (resumed n a (rest (a .state))) ≡ resumed n (after 0 s a) (rest (a .state))
+    go : (n : ℕ) → after 0 over s (resumed n a (rest (a .state))) ≡ resumed n (after 0 over s a) (rest (a .state))
     go zero = rw suc-add
     go (suc n) = refl
-resumes s (suc k) a rest = refl
+resumes s (suc k) over a rest = refl
 
 in-two :
     (t : Table) (s : State) (n : ℕ) (xs ys : List ℕ) → length xs ≡ 4 * n
@@ -96,8 +98,8 @@ in-two t s n (a ∷ b ∷ c ∷ []) ys e = absurd (omega arith)
 in-two t s zero (a ∷ b ∷ c ∷ d ∷ xs) ys e = absurd (omega arith)
 in-two t s (suc n) (a ∷ b ∷ c ∷ d ∷ xs) ys e =
     let x = advancedOn t s a b c d in
-    ap (after (x .number) s) (in-two t (x .state) n xs ys (omega arith))
-    ∙ resumes s (x .number) (advancing t (x .state) xs) (λ q. advancing t q ys)
+    ap (after (x .number) (x .excess) s) (in-two t (x .state) n xs ys (omega arith))
+    ∙ resumes s (x .number) (x .excess) (advancing t (x .state) xs) (λ q. advancing t q ys)
 
 pub blocks-one-after-another :
     (t : Table) (s : State) (n : ℕ) (xs ys : List ℕ) → length xs ≡ 4 * n

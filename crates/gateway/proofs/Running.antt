@@ -8,7 +8,7 @@ use Rattle.limits.specs.Rules.{brokenRule}
 use Rattle.shift.specs.declared.State.{State}
 use Rattle.shift.specs.declared.Answer.{Answer}
 use Rattle.shift.specs.States.{start}
-use Rattle.shift.specs.Answers.{guard, led, answer, judged, admitting}
+use Rattle.shift.specs.Answers.{guard, led, excess, answer, judged, admitting}
 use Rattle.shift.specs.Runs.{Outcome, after, run}
 use Rattle.stepfile.specs.Records.{recordOf, recordsIn}
 use Rattle.stepfile.specs.Files.{tableIn, refusalOf, recordBytes}
@@ -26,10 +26,10 @@ advances t s a b c d z = ap (λ (k : ℕ). admitting k (judged t s (recordOf a b
 
 -- going on by the answer is going on by the guard
 by-guard :
-    (k : ℕ) (next s : State) (rest : State → Outcome)
-    → after (answer k next s .number) s (rest (answer k next s .state)) ≡ after k s (rest next)
-by-guard zero next s rest = refl
-by-guard (suc k) next s rest = refl
+    (k over : ℕ) (next s : State) (rest : State → Outcome)
+    → (let a = answer k over next s in after (a .number) (a .excess) s (rest (a .state))) ≡ after k over s (rest next)
+by-guard zero over next s rest = refl
+by-guard (suc k) over next s rest = refl
 
 -- record by record is the run over what the records mean, from any state
 pub one-by-one :
@@ -40,9 +40,10 @@ one-by-one t s (a ∷ b ∷ []) z = refl
 one-by-one t s (a ∷ b ∷ c ∷ []) z = refl
 one-by-one t s (a ∷ b ∷ c ∷ d ∷ rest) z =
     let r = recordOf a b c d in
-    ap (λ (x : Answer). after (x .number) s (advancing t (x .state) rest)) (advances t s a b c d z)
-    ∙ by-guard (guard t s r) (led s r) s (λ q. advancing t q rest)
-    ∙ ap (after (guard t s r) s) (one-by-one t (led s r) rest z)
+    let over = excess t s r (guard t s r) in
+    ap (λ (x : Answer). after (x .number) (x .excess) s (advancing t (x .state) rest)) (advances t s a b c d z)
+    ∙ by-guard (guard t s r) over (led s r) s (λ q. advancing t q rest)
+    ∙ ap (after (guard t s r) over s) (one-by-one t (led s r) rest z)
 
 -- the records of a good file, from the start state: the count is the verdict's index, the number and the state are the verdict's
 pub advancing-is-judging :

@@ -10,7 +10,7 @@ use Rattle.limits.specs.Rules.{brokenRule}
 use Rattle.shift.specs.declared.State.{State}
 use Rattle.shift.specs.declared.Answer.{Answer}
 use Rattle.shift.specs.Answers.{judged, admitting}
-use Rattle.shift.specs.Runs.{Outcome, after}
+use Rattle.shift.specs.Runs.{Outcome, ended, after}
 use Rattle.stepfile.specs.Records.{recordOf}
 use Rattle.verdict.specs.declared.Verdict.{Verdict}
 
@@ -19,18 +19,18 @@ unfoldable pub advancedOn : Table → State → ℕ → ℕ → ℕ → ℕ → 
 advancedOn t s code middle low high = admitting (brokenRule t) (judged t s (recordOf code middle low high)) s
 
 -- four bytes a call, each on the state that the one before answered, up to the first number that is not 0: how many were accepted,
--- that number, and the state before it; what is left over is no record
+-- that number with its excess, and the state before it; what is left over is no record
 abbrev pub advancing : Table → State → List ℕ → Outcome
-advancing t s [] = record { count = 0; number = 0; state = s }
-advancing t s (a ∷ []) = record { count = 0; number = 0; state = s }
-advancing t s (a ∷ b ∷ []) = record { count = 0; number = 0; state = s }
-advancing t s (a ∷ b ∷ c ∷ []) = record { count = 0; number = 0; state = s }
+advancing t s [] = ended s
+advancing t s (a ∷ []) = ended s
+advancing t s (a ∷ b ∷ []) = ended s
+advancing t s (a ∷ b ∷ c ∷ []) = ended s
 advancing t s (a ∷ b ∷ c ∷ d ∷ rest) =
     let x = advancedOn t s a b c d in
-    after (x .number) s (advancing t (x .state) rest)
+    after (x .number) (x .excess) s (advancing t (x .state) rest)
 
 -- a block is its records one by one: the index is how many were accepted, and 4 comes with the rule
 unfoldable pub blockOn : Table → State → List ℕ → Verdict
 blockOn t s l =
     let o = advancing t s l in
-    record { number = o .number; rule = cond (eqb (o .number) 4) (brokenRule t) 0; index = o .count; state = o .state }
+    record { number = o .number; rule = cond (eqb (o .number) 4) (brokenRule t) 0; index = o .count; excess = o .excess; state = o .state }

@@ -17,6 +17,7 @@ pub fn advanced(state: State, table: Table, code: u8, middle: u8, low: u8, high:
         return Answer {
             number: 4,
             rule: broken,
+            excess: 0,
             state,
         };
     }
@@ -25,6 +26,7 @@ pub fn advanced(state: State, table: Table, code: u8, middle: u8, low: u8, high:
     Answer {
         number: verdict.number,
         rule: verdict.rule,
+        excess: verdict.excess,
         state,
     }
 }
@@ -41,6 +43,7 @@ pub fn advanced_block(state: State, table: Table, records: &[u8]) -> Verdict
                 number: 0,
                 rule: 0,
                 index: 0,
+                excess: 0,
                 state,
             };
         }
@@ -48,6 +51,7 @@ pub fn advanced_block(state: State, table: Table, records: &[u8]) -> Verdict
             number: 4,
             rule,
             index: 0,
+            excess: 0,
             state,
         };
     }

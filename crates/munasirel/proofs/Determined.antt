@@ -22,6 +22,7 @@ use Rattle.gateway.specs.Advancing.{advancedOn, blockOn}
 use Rattle.munasirel.proofs.munasirel_advance as advance
 use Rattle.munasirel.proofs.munasirel_advance_block as advance-block
 use Rattle.munasirel.proofs.munasirel_judge.Reads as judge-reads
+use Rattle.munasirel.proofs.munasirel_verdict.Reads as verdict-reads
 use Rattle.munasirel.proofs.munasirel_admit.Reads as admit-reads
 use Rattle.munasirel.proofs.munasirel_table.Reads as table-reads
 use Rattle.munasirel.proofs.munasirel_line.Reads as line-reads
@@ -30,6 +31,9 @@ use Rattle.munasirel.proofs.munasirel_write.Reads as write-reads
 
 pub munasirel-judge : Determined judge-reads.Post
 munasirel-judge κs a x y at at′ p q = p ∙ sym q
+
+pub munasirel-verdict : Determined verdict-reads.Post
+munasirel-verdict κs a x y at at′ p q = p ∙ sym q
 
 pub munasirel-admit : Determined admit-reads.Post
 munasirel-admit κs a x y at at′ p q = p ∙ sym q
@@ -63,36 +67,42 @@ munasirel-write κs a x y at at′ p q = (
 
 -- ---- `munasirel_advance` and `munasirel_advance_block` are walked by hand, so that no `Reads` is made of them: the clause of each as
 -- a plain claim, and that in every model the contract has this claim
-abbrev answered : (κs : Lfts 1) → Args advance.signature κs → Answer
+abbrev answered : (κs : Lfts 2) → Args advance.signature κs → Answer
 answered κs a = advancedOn (a .1 .0) (now (a .0)) (a .1 .1 .0) (a .1 .1 .1 .0) (a .1 .1 .1 .1 .0) (a .1 .1 .1 .1 .1 .0)
 
-abbrev pub Advanced : (κs : Lfts 1) → Args advance.signature κs → Res advance.signature κs → AtExit advance.ended κs → Type 0
-Advanced κs a r at = (r ≡ answered κs a .number) × (now (at .0) ≡ answered κs a .state)
+abbrev pub Advanced : (κs : Lfts 2) → Args advance.signature κs → Res advance.signature κs → AtExit advance.ended κs → Type 0
+Advanced κs a r at =
+    (r ≡ answered κs a .number) × (now (at .0) ≡ answered κs a .state) × (now (at .1 .1 .1 .1 .1 .1 .0) ≡ answered κs a .excess)
 
 pub claimed :
-    {M : Type 1} (𝓤 : URA M) (H : Heap 𝓤) (A : Atoms 𝓤) (mem : Memory → SProp 𝓤) (run : Routine → Fun 𝓤) (κs : Lfts 1)
+    {M : Type 1} (𝓤 : URA M) (H : Heap 𝓤) (A : Atoms 𝓤) (mem : Memory → SProp 𝓤) (run : Routine → Fun 𝓤) (κs : Lfts 2)
     (a : Args advance.signature κs) (r : Res advance.signature κs) (at : AtExit advance.ended κs)
     → advance.clauses 𝓤 H A mem run κs a .ensures tt r at ≡ fact 𝓤 (Advanced κs a r at)
 claimed 𝓤 H A mem run κs a r at = refl
 
--- the state
-pub munasirel-advance : DeterminedLent (λ κs at. now (at .0)) Advanced
-munasirel-advance κs a x y at at′ p q = (p .0 ∙ sym (q .0), p .1 ∙ sym (q .1))
+-- the state and the excess
+pub munasirel-advance : DeterminedLent {L = State × ℕ} (λ κs at. (now (at .0), now (at .1 .1 .1 .1 .1 .1 .0))) Advanced
+munasirel-advance κs a x y at at′ p q = (p .0 ∙ sym (q .0), both (p .1 ∙ sym (q .1)) (p .2 ∙ sym (q .2)))
 
-abbrev judged : (κs : Lfts 3) → Args advance-block.signature κs → Verdict
+abbrev judged : (κs : Lfts 4) → Args advance-block.signature κs → Verdict
 judged κs a = blockOn (a .1 .0) (now (a .0)) (now (a .1 .1 .0))
 
 abbrev pub AdvancedBlock :
-    (κs : Lfts 3) → Args advance-block.signature κs → Res advance-block.signature κs → AtExit advance-block.ended κs → Type 0
+    (κs : Lfts 4) → Args advance-block.signature κs → Res advance-block.signature κs → AtExit advance-block.ended κs → Type 0
 AdvancedBlock κs a r at =
-    (r ≡ judged κs a .number) × (now (at .0) ≡ judged κs a .state) × (now (at .1 .1 .1 .0) ≡ judged κs a .index)
+    (r ≡ judged κs a .number)
+    × (now (at .0) ≡ judged κs a .state)
+    × (now (at .1 .1 .1 .0) ≡ judged κs a .index)
+    × (now (at .1 .1 .1 .1 .0) ≡ judged κs a .excess)
 
 pub claimed-block :
-    {M : Type 1} (𝓤 : URA M) (H : Heap 𝓤) (A : Atoms 𝓤) (mem : Memory → SProp 𝓤) (run : Routine → Fun 𝓤) (κs : Lfts 3)
+    {M : Type 1} (𝓤 : URA M) (H : Heap 𝓤) (A : Atoms 𝓤) (mem : Memory → SProp 𝓤) (run : Routine → Fun 𝓤) (κs : Lfts 4)
     (a : Args advance-block.signature κs) (r : Res advance-block.signature κs) (at : AtExit advance-block.ended κs)
     → advance-block.clauses 𝓤 H A mem run κs a .ensures tt r at ≡ fact 𝓤 (AdvancedBlock κs a r at)
 claimed-block 𝓤 H A mem run κs a r at = refl
 
--- the state and the count
-pub munasirel-advance-block : DeterminedLent {L = State × ℕ} (λ κs at. (now (at .0), now (at .1 .1 .1 .0))) AdvancedBlock
-munasirel-advance-block κs a x y at at′ p q = (p .0 ∙ sym (q .0), both (p .1 ∙ sym (q .1)) (p .2 ∙ sym (q .2)))
+-- the state, the count and the excess
+pub munasirel-advance-block :
+    DeterminedLent {L = State × (ℕ × ℕ)} (λ κs at. (now (at .0), (now (at .1 .1 .1 .0), now (at .1 .1 .1 .1 .0)))) AdvancedBlock
+munasirel-advance-block κs a x y at at′ p q =
+    (p .0 ∙ sym (q .0), both (p .1 ∙ sym (q .1)) (both (p .2 ∙ sym (q .2)) (p .3 ∙ sym (q .3))))

@@ -1,7 +1,7 @@
 -- What a host calls is refused by the first number whose condition holds, in the words of each crate's specs/Refusals.antt, and a refused
 -- call keeps the count and every byte that it was lent.
 -- Assumes nothing.
-use mathlib.Core.Path.{_≡_}
+use mathlib.Core.Path.{_≡_, sym, subst}
 use Prim.Native.Nat.{_≤_}
 use denote.Ref.{now}
 use Rattle.checks.specs.Conditions.{FirstOf}
@@ -20,6 +20,7 @@ use Rattle.verdict.specs.Refusals.{JudgeAnswers}
 use Rattle.verdict.proofs.Refusals.{judge-answers}
 use Rattle.munasirel.specs.Calls.{wishOf}
 use Rattle.munasirel.proofs.munasirel_judge.Reads as judge-reads
+use Rattle.munasirel.proofs.munasirel_verdict.Reads as verdict-reads
 use Rattle.munasirel.proofs.munasirel_admit.Reads as admit-reads
 use Rattle.munasirel.proofs.munasirel_line.Reads as line-reads
 use Rattle.munasirel.proofs.munasirel_join.Reads as join-reads
@@ -30,6 +31,10 @@ pub munasirel-judge :
     (κs : _) (a : _) (r : _) (at : _) → judge-reads.Post κs a r at
     → (v : Verdict) × (r ≡ v .number) × JudgeAnswers (now (a .0)) v
 munasirel-judge κs a r at p = (verdictOf (now (a .0)), p, judge-answers (now (a .0)))
+
+-- the whole verdict
+pub munasirel-verdict : (κs : _) (a : _) (r : _) (at : _) → verdict-reads.Post κs a r at → JudgeAnswers (now (a .0)) r
+munasirel-verdict κs a r at p = subst (JudgeAnswers (now (a .0))) (sym p) (judge-answers (now (a .0)))
 
 pub munasirel-admit :
     (κs : _) (a : _) (r : _) (at : _) → admit-reads.Post κs a r at → FirstOf (broken (a .0)) r × (r ≤ 15)

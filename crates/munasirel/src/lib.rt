@@ -11,6 +11,7 @@ ghost use Rattle.munasirel.specs.Calls.{wishOf, writtenFor, outAfter};
 use limits::Table;
 use shift::State;
 use stepfile::write::Wish;
+use verdict::Verdict;
 
 // The number of the verdict on a file.
 #[no_mangle]
@@ -18,6 +19,14 @@ pub extern "C" fn munasirel_judge(file: &[u8]) -> u8
     ensures { λ r. ⌜ r ≡ verdictOf (now (file .entry)) .number ⌝ }
 {
     verdict::judge(file).number
+}
+
+// The whole verdict on a file.
+#[no_mangle]
+pub extern "C" fn munasirel_verdict(file: &[u8]) -> Verdict
+    ensures { λ r. ⌜ r ≡ verdictOf (now (file .entry)) ⌝ }
+{
+    verdict::judge(file)
 }
 
 // The first rule that a table breaks, 0 for an admitted one.
@@ -92,7 +101,7 @@ fn wish_of(with_table: u8, table: Table) -> Wish
     Wish::Given(table)
 }
 
-// One record's four bytes on the lent state, which is as it was where they are refused.
+// One record's four bytes on the lent state, which is as it was where they are refused; `excess` says how far over they are.
 #[no_mangle]
 pub extern "C" fn munasirel_advance(
     state: &mut State,
@@ -101,28 +110,33 @@ pub extern "C" fn munasirel_advance(
     middle: u8,
     low: u8,
     high: u8,
+    excess: &mut u64,
 ) -> u8
-    ensures { λ r. ⌜ (r ≡ advancedOn table (now (state .entry)) code middle low high .number) × (now (state .exit) ≡ advancedOn table (now (state .entry)) code middle low high .state) ⌝ }
+    ensures { λ r. ⌜ (r ≡ advancedOn table (now (state .entry)) code middle low high .number) × (now (state .exit) ≡ advancedOn table (now (state .entry)) code middle low high .state) × (now (excess .exit) ≡ advancedOn table (now (state .entry)) code middle low high .excess) ⌝ }
 {
     let a = gateway::advanced(*state, table, code, middle, low, high);
+    *excess = a.excess;
     if a.number == 0 {
         *state = a.state;
     }
     a.number
 }
 
-// The records of a block, one by one on the lent state, which is advanced by those accepted; `accepted` counts them.
+// The records of a block, one by one on the lent state, which is advanced by those accepted; `accepted` counts them, and `excess` says
+// how far over the refused one is.
 #[no_mangle]
 pub extern "C" fn munasirel_advance_block(
     state: &mut State,
     table: Table,
     records: &[u8],
     accepted: &mut usize,
+    excess: &mut u64,
 ) -> u8
-    ensures { λ r. ⌜ (r ≡ blockOn table (now (state .entry)) (now (records .entry)) .number) × (now (state .exit) ≡ blockOn table (now (state .entry)) (now (records .entry)) .state) × (now (accepted .exit) ≡ blockOn table (now (state .entry)) (now (records .entry)) .index) ⌝ }
+    ensures { λ r. ⌜ (r ≡ blockOn table (now (state .entry)) (now (records .entry)) .number) × (now (state .exit) ≡ blockOn table (now (state .entry)) (now (records .entry)) .state) × (now (accepted .exit) ≡ blockOn table (now (state .entry)) (now (records .entry)) .index) × (now (excess .exit) ≡ blockOn table (now (state .entry)) (now (records .entry)) .excess) ⌝ }
 {
     let verdict = gateway::advanced_block(*state, table, records);
     *state = verdict.state;
     *accepted = verdict.index;
+    *excess = verdict.excess;
     verdict.number
 }

@@ -26,7 +26,7 @@ returns-2 c =
     let rule = c .before .before .before .before .broken-rule in
     let record-bytes = a .code ∷ a .middle ∷ a .low ∷ a .high ∷ [] in
     let block = c .before .judge-records .ensures ∙ admitted (a .table) (a .state) record-bytes (sym (rule .ensures) ∙ c .before .before .before .if1 .left) in
-    ap (λ (v : Verdict). record { number = v .number; rule = v .rule; state = v .state }) block
+    ap (λ (v : Verdict). record { number = v .number; rule = v .rule; excess = v .excess; state = v .state }) block
     ∙ a-block-of-one-record (a .table) (a .state) (a .code) (a .middle) (a .low) (a .high)
 
 pub advanced-spec : {M : Type 1} → statement M

@@ -15,7 +15,7 @@ returns-2 : tie.Need-returns-2
 returns-2 c =
     let a = c .before .before .before .before .args in
     let rule = c .before .before .broken-rule in
-    ap (λ k. record { number = 4; rule = k; index = 0; state = a .state }) (rule .ensures)
+    ap (λ k. record { number = 4; rule = k; index = 0; excess = 0; state = a .state }) (rule .ensures)
     ∙ not-admitted (a .table) (a .state) (a .records .now) (λ z. c .before .if1 .taken (rule .ensures ∙ z)) (omega arith)
 
 returns-3 : tie.Need-returns-3
