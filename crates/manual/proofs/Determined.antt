@@ -6,7 +6,9 @@ use Rattle.manual.proofs.Variables.initialisation.Reads as initialisati
 use Rattle.manual.proofs.on_side.Reads as on-side-reads
 use Rattle.manual.proofs.late.Reads as late-reads
 use Rattle.manual.proofs.early.Reads as early-reads
-use Rattle.manual.proofs.in_time.Reads as in-time-reads
+use Rattle.manual.proofs.late_by.Reads as late-by-reads
+use Rattle.manual.proofs.early_by.Reads as early-by-reads
+use Rattle.manual.proofs.past.Reads as past-reads
 use Rattle.manual.proofs.or_else.Reads as or-else-reads
 
 pub initialisation : Determined initialisation-reads.Post
@@ -21,8 +23,14 @@ late κs a x y at at′ p q = p ∙ sym q
 pub early : Determined early-reads.Post
 early κs a x y at at′ p q = p ∙ sym q
 
-pub in-time : Determined in-time-reads.Post
-in-time κs a x y at at′ p q = p ∙ sym q
+pub late-by : Determined late-by-reads.Post
+late-by κs a x y at at′ p q = p ∙ sym q
+
+pub early-by : Determined early-by-reads.Post
+early-by κs a x y at at′ p q = p ∙ sym q
+
+pub past : Determined past-reads.Post
+past κs a x y at at′ p q = p ∙ sym q
 
 pub or-else : Determined or-else-reads.Post
 or-else κs a x y at at′ p q = p ∙ sym q

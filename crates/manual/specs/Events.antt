@@ -23,14 +23,27 @@ abbrev pub acted : List (Variables → Variables) → Variables → Variables
 acted [] v = v
 acted (a ∷ rest) v = acted rest (a v)
 
--- enabled: the guards on flags hold. Its number is 0, or that of the first other guard that does not hold
+-- enabled: the guards on flags hold. Its number is 0, or that of the first other guard that does not hold; its excess
+-- is the milliseconds by which its guard on times fails, 0 where that holds
+abbrev pub timed : ℕ → List Check → List (Variables → Variables) → Variables → Event
+timed excess guards actions v = record {
+  enabled = flagsHold true guards;
+  number = first (others guards);
+  excess = excess;
+  after = acted actions v;
+}
+
+-- without a guard on times
 abbrev pub event : List Check → List (Variables → Variables) → Variables → Event
-event guards actions v =
-    record { enabled = flagsHold true guards; number = first (others guards); after = acted actions v }
+event = timed 0
 
 -- the number of what an event answers: 7 where it is not enabled
 abbrev pub answered : Event → ℕ
 answered e = cond (e .enabled) (e .number) 7
+
+-- and its excess
+abbrev pub exceeded : Event → ℕ
+exceeded e = cond (e .enabled) (e .excess) 0
 
 -- the first of two that is enabled, the second where none is
 unfoldable pub orElse : Event → Event → Event

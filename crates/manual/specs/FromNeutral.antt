@@ -3,7 +3,7 @@
 -- Assumes nothing.
 use mathlib.Core.Bool.{false, not}
 use mathlib.Core.List.{[], _∷_}
-use Prim.Native.Nat.{_+_}
+use Prim.Native.Nat.{_+_, _-_}
 use lib.Dec.{leb}
 use Rattle.checks.specs.Checks.{_!_}
 use Rattle.limits.specs.declared.Table.{Table}
@@ -11,11 +11,12 @@ use Rattle.manual.specs.declared.Variables.{Variables}
 use Rattle.manual.specs.declared.Event.{Event}
 use Rattle.manual.specs.Names.{Flag, Time}
 use Rattle.manual.specs.Variables.{raise, stamp, setNeu}
-use Rattle.manual.specs.Events.{event}
+use Rattle.manual.specs.Events.{timed, event}
 
 abbrev pub «FromNeu_SyncSpeed» : Table → Variables → Event
 «FromNeu_SyncSpeed» t v =
-    event
+    timed
+    (v .time - (v .RequestFromNeuT + t .«sync_ex»))  -- past grd5
     ((v .RequestFromNeu ! 7)  -- grd1
     ∷ (not (v .«FromNeu_SyncSpeed») ! 7)  -- grd2
     ∷ (not (v .«FromNeu_RequestOpenClutch») ! 7)  -- grd3
@@ -29,7 +30,8 @@ abbrev pub «FromNeu_SyncSpeed» : Table → Variables → Event
 
 abbrev pub «FromNeu_RequestOpenClutch» : Table → Variables → Event
 «FromNeu_RequestOpenClutch» t v =
-    event
+    timed
+    ((v .RequestFromNeuT + t .«sync_de») - v .time)  -- before grd4
     ((v .RequestFromNeu ! 7)  -- grd1
     ∷ (not (v .«FromNeu_SyncSpeed») ! 7)  -- grd2
     ∷ (not (v .«FromNeu_RequestOpenClutch») ! 7)  -- grd3

@@ -3,7 +3,7 @@
 -- Assumes nothing.
 use mathlib.Core.Bool.{true, false, not}
 use mathlib.Core.List.{[], _∷_}
-use Prim.Native.Nat.{_+_}
+use Prim.Native.Nat.{_+_, _-_}
 use lib.Dec.{leb}
 use Rattle.checks.specs.Checks.{_!_}
 use Rattle.limits.specs.declared.Table.{Table}
@@ -11,11 +11,12 @@ use Rattle.manual.specs.declared.Variables.{Variables}
 use Rattle.manual.specs.declared.Event.{Event}
 use Rattle.manual.specs.Names.{Flag, Time}
 use Rattle.manual.specs.Variables.{raise, stamp, setNeu}
-use Rattle.manual.specs.Events.{event}
+use Rattle.manual.specs.Events.{timed, event}
 
 abbrev pub «NoNeu_ZeroTorque» : Table → Variables → Event
 «NoNeu_ZeroTorque» t v =
-    event
+    timed
+    (v .time - (v .RequestNoNeuT + t .«zero_ex»))  -- past grd4
     ((v .RequestNoNeu ! 7)  -- grd1
     ∷ (not (v .«NoNeu_ZeroTorque») ! 7)  -- grd2
     ∷ (not (v .«NoNeu_RequestOpenClutch_Releasing») ! 7)  -- grd3
@@ -29,7 +30,8 @@ abbrev pub «NoNeu_ZeroTorque» : Table → Variables → Event
 
 abbrev pub «NoNeu_RequestOpenClutch_Releasing» : Table → Variables → Event
 «NoNeu_RequestOpenClutch_Releasing» t v =
-    event
+    timed
+    ((v .RequestNoNeuT + t .«zero_de») - v .time)  -- before grd4
     ((v .RequestNoNeu ! 7)  -- grd1
     ∷ (not (v .«NoNeu_ZeroTorque») ! 7)  -- grd2
     ∷ (not (v .«NoNeu_RequestOpenClutch_Releasing») ! 7)  -- grd3
@@ -120,7 +122,8 @@ abbrev pub «Error_NoNeu_Release_Clutch» : Variables → Event
 
 abbrev pub «NoNeu_SyncSpeed» : Table → Variables → Event
 «NoNeu_SyncSpeed» t v =
-    event
+    timed
+    (v .time - (v .«NoNeu_Release_NoClutchT» + t .«sync_ex»))  -- past grd5
     ((v .«NoNeu_Release_NoClutch» ! 7)  -- grd1
     ∷ (not (v .«NoNeu_SyncSpeed») ! 7)  -- grd2
     ∷ (not (v .«NoNeu_RequestOpenClutch_Setting») ! 7)  -- grd3
@@ -134,7 +137,8 @@ abbrev pub «NoNeu_SyncSpeed» : Table → Variables → Event
 
 abbrev pub «NoNeu_RequestOpenClutch_Setting» : Table → Variables → Event
 «NoNeu_RequestOpenClutch_Setting» t v =
-    event
+    timed
+    ((v .«NoNeu_Release_NoClutchT» + t .«sync_de») - v .time)  -- before grd4
     ((v .«NoNeu_Release_NoClutch» ! 7)  -- grd1
     ∷ (not (v .«NoNeu_SyncSpeed») ! 7)  -- grd2
     ∷ (not (v .«NoNeu_RequestOpenClutch_Setting») ! 7)  -- grd3

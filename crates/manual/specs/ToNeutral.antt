@@ -3,7 +3,7 @@
 -- Assumes nothing.
 use mathlib.Core.Bool.{true, not}
 use mathlib.Core.List.{[], _∷_}
-use Prim.Native.Nat.{_+_}
+use Prim.Native.Nat.{_+_, _-_}
 use lib.Dec.{leb}
 use Rattle.checks.specs.Checks.{_!_}
 use Rattle.limits.specs.declared.Table.{Table}
@@ -11,11 +11,12 @@ use Rattle.manual.specs.declared.Variables.{Variables}
 use Rattle.manual.specs.declared.Event.{Event}
 use Rattle.manual.specs.Names.{Flag, Time}
 use Rattle.manual.specs.Variables.{raise, stamp, setNeu}
-use Rattle.manual.specs.Events.{event}
+use Rattle.manual.specs.Events.{timed, event}
 
 abbrev pub «ToNeu_ZeroTorque» : Table → Variables → Event
 «ToNeu_ZeroTorque» t v =
-    event
+    timed
+    (v .time - (v .RequestToNeuT + t .«zero_ex»))  -- past grd5
     ((v .RequestToNeu ! 7)  -- grd1
     ∷ (not (v .«ToNeu_ZeroTorque») ! 7)  -- grd2
     ∷ (not (v .«ToNeu_RequestOpenClutch») ! 7)  -- grd3
@@ -29,7 +30,8 @@ abbrev pub «ToNeu_ZeroTorque» : Table → Variables → Event
 
 abbrev pub «ToNeu_RequestOpenClutch» : Table → Variables → Event
 «ToNeu_RequestOpenClutch» t v =
-    event
+    timed
+    ((v .RequestToNeuT + t .«zero_de») - v .time)  -- before grd4
     ((v .RequestToNeu ! 7)  -- grd1
     ∷ (not (v .«ToNeu_ZeroTorque») ! 7)  -- grd2
     ∷ (not (v .«ToNeu_RequestOpenClutch») ! 7)  -- grd3

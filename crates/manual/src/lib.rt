@@ -1,11 +1,11 @@
 // Machine m9 of the manual: its variables under their own names, an event, and the comparisons that events share.
 ghost use mathlib.Core.Path.{_≡_};
 ghost use mathlib.Core.Bool.{cond};
-ghost use Prim.Native.Nat.{_+_};
+ghost use Prim.Native.Nat.{_+_, _-_};
 ghost use lib.Dec.{leb};
 ghost use Rattle.manual.specs.Variables.{initialisation};
 ghost use Rattle.manual.specs.Events.{orElse};
-ghost use Rattle.manual.specs.Ticks.{inTime};
+ghost use Rattle.manual.specs.Ticks.{past, pastElse};
 
 // The variables of machine m9, in the manual's order.
 #[repr(C)]
@@ -110,19 +110,22 @@ pub struct Variables {
     pub Gear_SetT: u32,
 }
 
-// What an event would do: whether its guards on flags hold, the number that its other guards refuse with or 0, and the variables
-// after its actions.
+// What an event would do: whether its guards on flags hold, the number that its other guards refuse with or 0, the milliseconds by which
+// its guard on times fails or 0, and the variables after its actions.
 pub struct Event {
     pub enabled: bool,
     pub number: u8,
+    pub excess: u64,
     pub after: Variables,
 }
 
-// 0 and the variables after a step, or the number that refuses it and the variables that were given; the rule is 0 except with 4.
+// 0 and the variables after a step, or the number that refuses it and the variables that were given; the rule is 0 except with 4, the
+// excess except with 9 to 13.
 #[repr(C)]
 pub struct Moved {
     pub number: u8,
     pub rule: u8,
+    pub excess: u64,
     pub variables: Variables,
 }
 
@@ -263,11 +266,33 @@ pub fn early(time: u32, since: u32, de: u16) -> u8
     }
 }
 
-// A guard of Tick_Tock: where these flags stand so, now ≤ since + limit.
-pub fn in_time(flags: bool, now: u64, since: u32, limit: u16) -> bool
-    ensures { λ r. ⌜ r ≡ inTime flags now since limit ⌝ }
+// The milliseconds by which a guard time ≤ since + ex fails.
+pub fn late_by(time: u32, since: u32, ex: u16) -> u64
+    ensures { λ r. ⌜ r ≡ time - (since + ex) ⌝ }
 {
-    !flags | !times::passes(now, since, limit)
+    times::beyond(time as u64, times::bound(since, ex))
+}
+
+// The milliseconds by which a guard time ≥ since + de fails.
+pub fn early_by(time: u32, since: u32, de: u16) -> u64
+    ensures { λ r. ⌜ r ≡ (since + de) - time ⌝ }
+{
+    times::beyond(times::bound(since, de), time as u64)
+}
+
+// A guard of Tick_Tock: where these flags stand so, now ≤ since + limit. The milliseconds by which it is passed, or those of a guard
+// before it.
+pub fn past(before: u64, flags: bool, now: u64, since: u32, limit: u16) -> u64
+    ensures { λ r. ⌜ r ≡ pastElse before (past flags now since limit) ⌝ }
+{
+    if before != 0 {
+        return before;
+    }
+    if flags {
+        times::beyond(now, times::bound(since, limit))
+    } else {
+        0
+    }
 }
 
 // The first of two events that is enabled, the second where none is.
