@@ -20,6 +20,7 @@ pub fn RequestFromNeu(mut v: Variables) -> Event
     Event {
         enabled,
         number,
+        excess: 0,
         after: v,
     }
 }
@@ -36,6 +37,7 @@ pub fn RequestNoNeu(mut v: Variables) -> Event
     Event {
         enabled,
         number,
+        excess: 0,
         after: v,
     }
 }
@@ -52,6 +54,7 @@ pub fn RequestToNeu(mut v: Variables) -> Event
     Event {
         enabled,
         number,
+        excess: 0,
         after: v,
     }
 }
@@ -66,6 +69,7 @@ pub fn Engine_Request_SyncSpeed(mut v: Variables) -> Event
     Event {
         enabled,
         number: 0,
+        excess: 0,
         after: v,
     }
 }
@@ -81,6 +85,7 @@ pub fn Engine_SyncSpeed(mut v: Variables) -> Event
     Event {
         enabled,
         number: 0,
+        excess: 0,
         after: v,
     }
 }
@@ -95,6 +100,7 @@ pub fn Engine_WaitForSyncClutch(mut v: Variables) -> Event
     Event {
         enabled,
         number: 0,
+        excess: 0,
         after: v,
     }
 }
@@ -109,6 +115,7 @@ pub fn Engine_Request_ZeroTorque(mut v: Variables) -> Event
     Event {
         enabled,
         number: 0,
+        excess: 0,
         after: v,
     }
 }
@@ -124,6 +131,7 @@ pub fn Engine_ZeroTorque(mut v: Variables) -> Event
     Event {
         enabled,
         number: 0,
+        excess: 0,
         after: v,
     }
 }
@@ -138,6 +146,7 @@ pub fn Engine_WaitForZeroClutch(mut v: Variables) -> Event
     Event {
         enabled,
         number: 0,
+        excess: 0,
         after: v,
     }
 }
@@ -155,6 +164,7 @@ pub fn Clutch_Request_Open(mut v: Variables) -> Event
     Event {
         enabled,
         number: 0,
+        excess: 0,
         after: v,
     }
 }
@@ -170,6 +180,7 @@ pub fn Clutch_Open(mut v: Variables) -> Event
     Event {
         enabled,
         number: 0,
+        excess: 0,
         after: v,
     }
 }
@@ -184,6 +195,7 @@ pub fn Error_Clutch_Open(mut v: Variables) -> Event
     Event {
         enabled,
         number: 0,
+        excess: 0,
         after: v,
     }
 }
@@ -201,6 +213,7 @@ pub fn Clutch_Request_Close(mut v: Variables) -> Event
     Event {
         enabled,
         number: 0,
+        excess: 0,
         after: v,
     }
 }
@@ -216,6 +229,7 @@ pub fn Clutch_Close(mut v: Variables) -> Event
     Event {
         enabled,
         number: 0,
+        excess: 0,
         after: v,
     }
 }
@@ -230,6 +244,7 @@ pub fn Error_Clutch_Close(mut v: Variables) -> Event
     Event {
         enabled,
         number: 0,
+        excess: 0,
         after: v,
     }
 }
@@ -247,6 +262,7 @@ pub fn Gear_Request_Release(mut v: Variables) -> Event
     Event {
         enabled,
         number: 0,
+        excess: 0,
         after: v,
     }
 }
@@ -262,6 +278,7 @@ pub fn Gear_Release(mut v: Variables) -> Event
     Event {
         enabled,
         number: 0,
+        excess: 0,
         after: v,
     }
 }
@@ -276,6 +293,7 @@ pub fn Error_Gear_Release(mut v: Variables) -> Event
     Event {
         enabled,
         number: 0,
+        excess: 0,
         after: v,
     }
 }
@@ -294,6 +312,7 @@ pub fn Gear_Request_Set(mut v: Variables) -> Event
     Event {
         enabled,
         number: 0,
+        excess: 0,
         after: v,
     }
 }
@@ -309,6 +328,7 @@ pub fn Gear_Set(mut v: Variables) -> Event
     Event {
         enabled,
         number: 0,
+        excess: 0,
         after: v,
     }
 }
@@ -323,6 +343,7 @@ pub fn Error_Gear_Set(mut v: Variables) -> Event
     Event {
         enabled,
         number: 0,
+        excess: 0,
         after: v,
     }
 }
@@ -382,6 +403,7 @@ pub fn FINAL(mut v: Variables) -> Event
     Event {
         enabled,
         number: 0,
+        excess: 0,
         after: v,
     }
 }
@@ -473,6 +495,7 @@ pub fn RESET(mut v: Variables) -> Event
     Event {
         enabled,
         number: 0,
+        excess: 0,
         after: v,
     }
 }

@@ -5,7 +5,9 @@ use limits::Table;
 use manual::Event;
 use manual::Variables;
 use manual::early;
+use manual::early_by;
 use manual::late;
+use manual::late_by;
 
 pub fn NoNeu_ZeroTorque(mut v: Variables, table: Table) -> Event
     ensures { λ r. ⌜ r ≡ «NoNeu_ZeroTorque» table v ⌝ }
@@ -15,11 +17,13 @@ pub fn NoNeu_ZeroTorque(mut v: Variables, table: Table) -> Event
         & !v.NoNeu_RequestOpenClutch_Releasing // grd3
         & v.Engine_ZeroTorque; // grd5
     let number = late(v.time, v.RequestNoNeuT, table.zero_ex); // grd4
+    let excess = late_by(v.time, v.RequestNoNeuT, table.zero_ex); // past grd4
     v.NoNeu_ZeroTorque = true; // act1
     v.NoNeu_ZeroTorqueT = v.time; // act2
     Event {
         enabled,
         number,
+        excess,
         after: v,
     }
 }
@@ -32,11 +36,13 @@ pub fn NoNeu_RequestOpenClutch_Releasing(mut v: Variables, table: Table) -> Even
         & !v.NoNeu_RequestOpenClutch_Releasing // grd3
         & v.Engine_WaitForZeroClutch; // 01: the engine waits; not printed
     let number = early(v.time, v.RequestNoNeuT, table.zero_de); // grd4
+    let excess = early_by(v.time, v.RequestNoNeuT, table.zero_de); // before grd4
     v.NoNeu_RequestOpenClutch_Releasing = true; // act1
     v.NoNeu_RequestOpenClutch_ReleasingT = v.time; // act2
     Event {
         enabled,
         number,
+        excess,
         after: v,
     }
 }
@@ -53,6 +59,7 @@ pub fn NoNeu_OpenClutch_Releasing(mut v: Variables) -> Event
     Event {
         enabled,
         number: 0,
+        excess: 0,
         after: v,
     }
 }
@@ -68,6 +75,7 @@ pub fn Error_NoNeu_OpenClutch_Releasing(mut v: Variables) -> Event
     Event {
         enabled,
         number: 0,
+        excess: 0,
         after: v,
     }
 }
@@ -85,6 +93,7 @@ pub fn NoNeu_Release_NoClutch(mut v: Variables) -> Event
     Event {
         enabled,
         number: 0,
+        excess: 0,
         after: v,
     }
 }
@@ -100,6 +109,7 @@ pub fn Error_NoNeu_Release_NoClutch(mut v: Variables) -> Event
     Event {
         enabled,
         number: 0,
+        excess: 0,
         after: v,
     }
 }
@@ -117,6 +127,7 @@ pub fn NoNeu_Release_Clutch(mut v: Variables) -> Event
     Event {
         enabled,
         number: 0,
+        excess: 0,
         after: v,
     }
 }
@@ -132,6 +143,7 @@ pub fn Error_NoNeu_Release_Clutch(mut v: Variables) -> Event
     Event {
         enabled,
         number: 0,
+        excess: 0,
         after: v,
     }
 }
@@ -144,11 +156,13 @@ pub fn NoNeu_SyncSpeed(mut v: Variables, table: Table) -> Event
         & !v.NoNeu_RequestOpenClutch_Setting // grd3
         & v.Engine_SyncSpeed; // grd4
     let number = late(v.time, v.NoNeu_Release_NoClutchT, table.sync_ex); // grd5
+    let excess = late_by(v.time, v.NoNeu_Release_NoClutchT, table.sync_ex); // past grd5
     v.NoNeu_SyncSpeed = true; // act1
     v.NoNeu_SyncSpeedT = v.time; // act2
     Event {
         enabled,
         number,
+        excess,
         after: v,
     }
 }
@@ -161,11 +175,13 @@ pub fn NoNeu_RequestOpenClutch_Setting(mut v: Variables, table: Table) -> Event
         & !v.NoNeu_RequestOpenClutch_Setting // grd3
         & v.Engine_WaitForSyncClutch; // 01: the engine waits; not printed
     let number = early(v.time, v.NoNeu_Release_NoClutchT, table.sync_de); // grd4
+    let excess = early_by(v.time, v.NoNeu_Release_NoClutchT, table.sync_de); // before grd4
     v.NoNeu_RequestOpenClutch_Setting = true; // act1
     v.NoNeu_RequestOpenClutch_SettingT = v.time; // act2
     Event {
         enabled,
         number,
+        excess,
         after: v,
     }
 }
@@ -182,6 +198,7 @@ pub fn NoNeu_OpenClutch_Setting(mut v: Variables) -> Event
     Event {
         enabled,
         number: 0,
+        excess: 0,
         after: v,
     }
 }
@@ -197,6 +214,7 @@ pub fn Error_NoNeu_OpenClutch_Setting(mut v: Variables) -> Event
     Event {
         enabled,
         number: 0,
+        excess: 0,
         after: v,
     }
 }
@@ -213,6 +231,7 @@ pub fn NoNeu_SetGear_NoClutch(mut v: Variables) -> Event
     Event {
         enabled,
         number: 0,
+        excess: 0,
         after: v,
     }
 }
@@ -228,6 +247,7 @@ pub fn Error_NoNeu_SetGear_NoClutch(mut v: Variables) -> Event
     Event {
         enabled,
         number: 0,
+        excess: 0,
         after: v,
     }
 }
@@ -245,6 +265,7 @@ pub fn NoNeu_SetGear_ReleasingClutch(mut v: Variables) -> Event
     Event {
         enabled,
         number: 0,
+        excess: 0,
         after: v,
     }
 }
@@ -260,6 +281,7 @@ pub fn Error_NoNeu_SetGear_ReleasingClutch(mut v: Variables) -> Event
     Event {
         enabled,
         number: 0,
+        excess: 0,
         after: v,
     }
 }
@@ -277,6 +299,7 @@ pub fn NoNeu_SetGear_SettingClutch(mut v: Variables) -> Event
     Event {
         enabled,
         number: 0,
+        excess: 0,
         after: v,
     }
 }
@@ -292,6 +315,7 @@ pub fn Error_NoNeu_SetGear_SettingClutch(mut v: Variables) -> Event
     Event {
         enabled,
         number: 0,
+        excess: 0,
         after: v,
     }
 }
@@ -307,6 +331,7 @@ pub fn NoNeu_CloseClutch_Setting(mut v: Variables) -> Event
     Event {
         enabled,
         number: 0,
+        excess: 0,
         after: v,
     }
 }
@@ -322,6 +347,7 @@ pub fn Error_NoNeu_CloseClutch_Setting(mut v: Variables) -> Event
     Event {
         enabled,
         number: 0,
+        excess: 0,
         after: v,
     }
 }
@@ -337,6 +363,7 @@ pub fn NoNeu_CloseClutch_Releasing(mut v: Variables) -> Event
     Event {
         enabled,
         number: 0,
+        excess: 0,
         after: v,
     }
 }
@@ -352,6 +379,7 @@ pub fn Error_NoNeu_CloseClutch_Releasing(mut v: Variables) -> Event
     Event {
         enabled,
         number: 0,
+        excess: 0,
         after: v,
     }
 }

@@ -6,7 +6,9 @@ use limits::Table;
 use manual::Event;
 use manual::Variables;
 use manual::early;
+use manual::early_by;
 use manual::late;
+use manual::late_by;
 
 pub fn FromNeu_SyncSpeed(mut v: Variables, table: Table) -> Event
     ensures { λ r. ⌜ r ≡ «FromNeu_SyncSpeed» table v ⌝ }
@@ -16,11 +18,13 @@ pub fn FromNeu_SyncSpeed(mut v: Variables, table: Table) -> Event
         & !v.FromNeu_RequestOpenClutch // grd3
         & v.Engine_SyncSpeed; // grd4
     let number = late(v.time, v.RequestFromNeuT, table.sync_ex); // grd5
+    let excess = late_by(v.time, v.RequestFromNeuT, table.sync_ex); // past grd5
     v.FromNeu_SyncSpeed = true; // act1
     v.FromNeu_SyncSpeedT = v.time; // act2
     Event {
         enabled,
         number,
+        excess,
         after: v,
     }
 }
@@ -33,11 +37,13 @@ pub fn FromNeu_RequestOpenClutch(mut v: Variables, table: Table) -> Event
         & !v.FromNeu_RequestOpenClutch // grd3
         & v.Engine_WaitForSyncClutch; // 01: the engine waits; not printed
     let number = early(v.time, v.RequestFromNeuT, table.sync_de); // grd4; 01: the delay of an engine that synchronizes; printed OpenClutch_Zero_DE
+    let excess = early_by(v.time, v.RequestFromNeuT, table.sync_de); // before grd4
     v.FromNeu_RequestOpenClutch = true; // act1
     v.FromNeu_RequestOpenClutchT = v.time; // act2
     Event {
         enabled,
         number,
+        excess,
         after: v,
     }
 }
@@ -54,6 +60,7 @@ pub fn FromNeu_OpenClutch(mut v: Variables) -> Event
     Event {
         enabled,
         number: 0,
+        excess: 0,
         after: v,
     }
 }
@@ -69,6 +76,7 @@ pub fn Error_FromNeu_OpenClutch(mut v: Variables) -> Event
     Event {
         enabled,
         number: 0,
+        excess: 0,
         after: v,
     }
 }
@@ -85,6 +93,7 @@ pub fn FromNeu_SetGear_NoClutch(mut v: Variables) -> Event
     Event {
         enabled,
         number: 0,
+        excess: 0,
         after: v,
     }
 }
@@ -100,6 +109,7 @@ pub fn Error_FromNeu_SetGear_NoClutch(mut v: Variables) -> Event
     Event {
         enabled,
         number: 0,
+        excess: 0,
         after: v,
     }
 }
@@ -117,6 +127,7 @@ pub fn FromNeu_SetGear_Clutch(mut v: Variables) -> Event
     Event {
         enabled,
         number: 0,
+        excess: 0,
         after: v,
     }
 }
@@ -132,6 +143,7 @@ pub fn Error_FromNeu_SetGear_Clutch(mut v: Variables) -> Event
     Event {
         enabled,
         number: 0,
+        excess: 0,
         after: v,
     }
 }
@@ -148,6 +160,7 @@ pub fn FromNeu_CloseClutch(mut v: Variables) -> Event
     Event {
         enabled,
         number: 0,
+        excess: 0,
         after: v,
     }
 }
@@ -163,6 +176,7 @@ pub fn Error_FromNeu_CloseClutch(mut v: Variables) -> Event
     Event {
         enabled,
         number: 0,
+        excess: 0,
         after: v,
     }
 }
@@ -175,11 +189,13 @@ pub fn ToNeu_ZeroTorque(mut v: Variables, table: Table) -> Event
         & !v.ToNeu_RequestOpenClutch // grd3
         & v.Engine_ZeroTorque; // grd4
     let number = late(v.time, v.RequestToNeuT, table.zero_ex); // grd5
+    let excess = late_by(v.time, v.RequestToNeuT, table.zero_ex); // past grd5
     v.ToNeu_ZeroTorque = true; // act1
     v.ToNeu_ZeroTorqueT = v.time; // act2
     Event {
         enabled,
         number,
+        excess,
         after: v,
     }
 }
@@ -192,11 +208,13 @@ pub fn ToNeu_RequestOpenClutch(mut v: Variables, table: Table) -> Event
         & !v.ToNeu_RequestOpenClutch // grd3
         & v.Engine_WaitForZeroClutch; // 01: the engine waits; not printed
     let number = early(v.time, v.RequestToNeuT, table.zero_de); // grd4
+    let excess = early_by(v.time, v.RequestToNeuT, table.zero_de); // before grd4
     v.ToNeu_RequestOpenClutch = true; // act1
     v.ToNeu_RequestOpenClutchT = v.time; // act2
     Event {
         enabled,
         number,
+        excess,
         after: v,
     }
 }
@@ -213,6 +231,7 @@ pub fn ToNeu_OpenClutch(mut v: Variables) -> Event
     Event {
         enabled,
         number: 0,
+        excess: 0,
         after: v,
     }
 }
@@ -228,6 +247,7 @@ pub fn Error_ToNeu_OpenClutch(mut v: Variables) -> Event
     Event {
         enabled,
         number: 0,
+        excess: 0,
         after: v,
     }
 }
@@ -244,6 +264,7 @@ pub fn ToNeu_Release_NoClutch(mut v: Variables) -> Event
     Event {
         enabled,
         number: 0,
+        excess: 0,
         after: v,
     }
 }
@@ -259,6 +280,7 @@ pub fn Error_ToNeu_Release_NoClutch(mut v: Variables) -> Event
     Event {
         enabled,
         number: 0,
+        excess: 0,
         after: v,
     }
 }
@@ -276,6 +298,7 @@ pub fn ToNeu_Release_Clutch(mut v: Variables) -> Event
     Event {
         enabled,
         number: 0,
+        excess: 0,
         after: v,
     }
 }
@@ -291,6 +314,7 @@ pub fn Error_ToNeu_Release_Clutch(mut v: Variables) -> Event
     Event {
         enabled,
         number: 0,
+        excess: 0,
         after: v,
     }
 }
@@ -307,6 +331,7 @@ pub fn ToNeu_CloseClutch(mut v: Variables) -> Event
     Event {
         enabled,
         number: 0,
+        excess: 0,
         after: v,
     }
 }
@@ -322,6 +347,7 @@ pub fn Error_ToNeu_CloseClutch(mut v: Variables) -> Event
     Event {
         enabled,
         number: 0,
+        excess: 0,
         after: v,
     }
 }
