@@ -3,7 +3,7 @@ ghost use mathlib.Core.Path.{_≡_};
 ghost use mathlib.Core.Bool.{cond};
 ghost use mathlib.Core.List.{[], _∷_};
 ghost use Rattle.shift.specs.declared.Reading.the-variants.{Means};
-ghost use Rattle.manual.specs.Events.{answered, firstOf};
+ghost use Rattle.manual.specs.Events.{answered, exceeded, firstOf};
 ghost use Rattle.manual.specs.Steps.{deliver, deviceGood, deviceFailed, engineWaits, takeFromNeutral, takeToNeutral, takeGearToGear, askClutch, errorFromNeutral, errorToNeutral, errorGearToGear, take, raiseError};
 ghost use Rattle.manual.specs.Answers.{moveTo, moved, movedOn};
 use limits::Table;
@@ -207,15 +207,23 @@ fn answered(enabled: bool, number: u8) -> u8
     if enabled { number } else { 7 }
 }
 
+// And its excess.
+fn exceeded(enabled: bool, excess: u64) -> u64
+    ensures { λ r. ⌜ r ≡ cond enabled excess 0 ⌝ }
+{
+    if enabled { excess } else { 0 }
+}
+
 // What an event makes of a step: refused, the variables are those given.
 fn settled(e: Event, v: Variables) -> Moved
-    ensures { λ r. ⌜ r ≡ moveTo (answered e) (e .after) v ⌝ }
+    ensures { λ r. ⌜ r ≡ moveTo (answered e) (exceeded e) (e .after) v ⌝ }
 {
     let number = answered(e.enabled, e.number);
     if number != 0 {
         return Moved {
             number,
             rule: 0,
+            excess: exceeded(e.enabled, e.excess),
             variables: v,
         };
     }
@@ -223,6 +231,7 @@ fn settled(e: Event, v: Variables) -> Moved
     Moved {
         number: 0,
         rule: 0,
+        excess: 0,
         variables: after,
     }
 }
@@ -260,6 +269,7 @@ pub fn step(v: Variables, table: Table, code: u8, middle: u8, amount: u32) -> Mo
         return Moved {
             number: 4,
             rule,
+            excess: 0,
             variables: v,
         };
     }
@@ -268,6 +278,7 @@ pub fn step(v: Variables, table: Table, code: u8, middle: u8, amount: u32) -> Mo
         return Moved {
             number: reading.refusal(),
             rule: 0,
+            excess: 0,
             variables: v,
         };
     };
