@@ -1,4 +1,4 @@
--- Document 02, request 1, carried through the two step functions: both engines are advanced call by call from their starts, and every
+-- Document 02, requests 1 and 4, carried through the two step functions: both engines are advanced call by call from their starts, and every
 -- call is answered alike. What is said, is said of whatever the contracts allow as outcomes.
 -- Assumes nothing.
 use mathlib.Core.Path.{_≡_, refl, sym, subst}
@@ -17,7 +17,7 @@ use Rattle.shift.proofs.State.step.Reads as our-step-reads
 use Rattle.manual.specs.declared.Variables.{Variables}
 use Rattle.manual.specs.declared.Moved.{Moved}
 use Rattle.manual.specs.Variables.{initialisation}
-use Rattle.manual.specs.Answers.{numberOf, ledTo, moveTo, movedOn}
+use Rattle.manual.specs.Answers.{numberOf, excessOf, ledTo, moveTo, movedOn}
 use Rattle.manual.specs.Answers as theirs
 use Rattle.manual.proofs.Variables.initialisation as their-start
 use Rattle.manual.proofs.Variables.initialisation.Reads as their-start-reads
@@ -66,13 +66,13 @@ joined (started v s c) =
 joined (advanced v s b t code amount m a c) = together v s t code amount m a (joined b) c .joined
 
 kept :
-    (rule number : ℕ) (after v : Variables) → ¬ (theirs.admitting rule (moveTo number after v) v .number ≡ 0)
-    → theirs.admitting rule (moveTo number after v) v .variables ≡ v
-kept zero zero after v h = absurd (h refl)
-kept zero (suc k) after v h = refl
-kept (suc k) number after v h = refl
+    (rule number over : ℕ) (after v : Variables) → ¬ (theirs.admitting rule (moveTo number over after v) v .number ≡ 0)
+    → theirs.admitting rule (moveTo number over after v) v .variables ≡ v
+kept zero zero over after v h = absurd (h refl)
+kept zero (suc k) over after v h = refl
+kept (suc k) number over after v h = refl
 
--- the same number, the same rule, and the variables read as the state
+-- the same number, rule and excess, and the variables read as the state
 pub every-call-is-answered-alike :
     (v : Variables) (s : State) → Advanced v s → (t : Table) (code amount : ℕ) (m : Moved) (a : Answer) → Called v s t code amount m a
     → Alike m a
@@ -84,4 +84,5 @@ pub refused-gives-back :
     → their-step-reads.Post κs (v, (t, (code, (middle, (amount, tt))))) m at → ¬ (m .number ≡ 0) → m .variables ≡ v
 refused-gives-back v t code middle amount κs m at p h =
     subst (λ (x : Moved). ¬ (x .number ≡ 0) → x .variables ≡ v) (sym p)
-    (kept (brokenRule t) (numberOf t v (reading code middle amount)) (ledTo t v (reading code middle amount)) v) h
+    (let r = reading code middle amount in
+    kept (brokenRule t) (numberOf t v r) (excessOf t v r) (ledTo t v r) v) h

@@ -11,16 +11,17 @@ use Rattle.checks.proofs.Tests.{case, passes}
 use Rattle.limits.specs.declared.Table.{Table}
 use Rattle.shift.specs.declared.State.{State}
 use Rattle.shift.specs.declared.Step.{Step}
-use Rattle.shift.specs.Steps.{allowed, effect}
-use Rattle.shift.specs.Answers.{listed}
+use Rattle.shift.specs.Steps.{effect}
+use Rattle.shift.specs.declared.Reading.the-variants.{Means}
+use Rattle.shift.specs.Answers.{listed, guard, excess}
 use Rattle.manual.specs.declared.Variables.{Variables}
-use Rattle.manual.specs.Events.{answered}
+use Rattle.manual.specs.Events.{answered, exceeded}
 use Rattle.manual.specs.Steps.{stepped}
 use Rattle.manual.proofs.Places.{Place, varsAt, stateAt, orders, stages, valid}
 use Rattle.manual.proofs.Places.Place.{at}
 use Rattle.manual.proofs.Ways.{goes, leads, refusal}
-use Rattle.manual.proofs.Plainly.{plainly, plain}
-use Rattle.manual.proofs.Same.{Fact, found, wanted, all-found, all-wanted, theirs, ours, after, next, resting, sent, working, ready, held, ended, failed}
+use Rattle.manual.proofs.Plainly.{plainly, plain, plainOver, over}
+use Rattle.manual.proofs.Same.{Fact, found, wanted, all-found, all-wanted, theirs, ours, theirs-over, ours-over, after, next, resting, sent, working, ready, held, ended, failed}
 use Rattle.manual_agreement.proofs.Every.{at-each-place, each, amount}
 
 -- ---- the facts of every place and step
@@ -55,6 +56,10 @@ module _ (t : Table) (w : Variables) (s : State) (c : Place) (h : T (valid c)) (
   unfolding found wanted
   same-number = ap (λ (f : Fact). f .number) fact
 
+  same-excess : theirs-over t w s c x ≡ ours-over t w s c x
+  unfolding found wanted
+  same-excess = ap (λ (f : Fact). f .excess) fact
+
   pub goes-where-accepted : theirs t w s c x ≡ 0 → goes c x ≡ false → ⊥
   unfolding found wanted
   goes-where-accepted z e =
@@ -86,12 +91,18 @@ module _ (t : Table) (v : Variables) (s : State) (x : Step) (i : Joined v s) whe
   abbrev c : Place
   c = i .place
 
-  pub answers : answered (stepped t v x) ≡ first (listed s ++ allowed t s x)
+  pub answers : answered (stepped t v x) ≡ guard t s (Means x)
   answers =
-      subst (λ (u : Variables). answered (stepped t u x) ≡ first (listed s ++ allowed t s x)) (sym (i .variables))
+      subst (λ (u : Variables). answered (stepped t u x) ≡ guard t s (Means x)) (sym (i .variables))
       (same-number t v s c (i .valid-place) x
-      ∙ subst (λ (r : State). first (listed r ++ plainly t r x) ≡ first (listed s ++ allowed t s x)) (i .state)
+      ∙ subst (λ (r : State). first (listed r ++ plainly t r x) ≡ guard t s (Means x)) (i .state)
       (ap (λ (cs : List Check). first (listed s ++ cs)) (sym (plain t s x))))
+
+  pub exceeds : exceeded (stepped t v x) ≡ excess t s (Means x) (guard t s (Means x))
+  exceeds =
+      subst (λ (u : Variables). exceeded (stepped t u x) ≡ excess t s (Means x) (guard t s (Means x))) (sym (i .variables))
+      (same-excess t v s c (i .valid-place) x
+      ∙ subst (λ (r : State). plainOver t r x ≡ excess t s (Means x) (guard t s (Means x))) (i .state) (sym (over t s x)))
 
   pub leads-on : answered (stepped t v x) ≡ 0 → Joined (stepped t v x .after) (effect s x)
   leads-on z =

@@ -1,4 +1,4 @@
--- Document 02, request 1: the manual's engine answers as ours does, and its variables read as our state.
+-- Document 02, requests 1 and 4: the manual's engine answers as ours does, excess and all, and its variables read as our state.
 -- Assumes nothing.
 use mathlib.Core.Path.{_≡_}
 use lib.Dec.{T}
@@ -21,14 +21,17 @@ pub record Reads (v : Variables) (s : State) : Type 0 where
   pub stageTime : T (limited s) → reading v .«stage_time» ≡ s .«stage_time»
   pub requestTime : T (limited s) → reading v .«request_time» ≡ s .«request_time»
 
--- of a list: the same steps accepted, refused at the same record by the same number, and the variables read as the state
+-- of a list: the same steps accepted, refused at the same record by the same number and with the same excess, and the variables read as
+-- the state
 pub record Agrees (m : manual.Outcome) (o : Outcome) : Type 0 where
   pub count : m .count ≡ o .count
   pub number : m .number ≡ o .number
+  pub excess : m .excess ≡ o .excess
   pub reads : Reads (m .variables) (o .state)
 
--- of one call: the same number and rule, and the variables read as the state
+-- of one call: the same number, rule and excess, and the variables read as the state
 pub record Alike (m : Moved) (a : Answer) : Type 0 where
   pub number : m .number ≡ a .number
   pub rule : m .rule ≡ a .rule
+  pub excess : m .excess ≡ a .excess
   pub reads : Reads (m .variables) (a .state)
