@@ -3,11 +3,11 @@
 use mathlib.Core.Path.{_≡_, refl, sym, subst, _∙_}
 use mathlib.Core.Bool.{Bool, true, false, cond, _&&_}
 use mathlib.Core.List.{List, [], _∷_, map, _++_}
-use Prim.Native.Nat.{ℕ, zero, suc, _+_}
+use Prim.Native.Nat.{ℕ, zero, suc, _+_, _-_}
 use native.Mathlib.Omega.{arith}
 use lib.Dec.{T, leb, eqb, le→leb, eqb→eq}
 use lib.ListN.{getD}
-use Rattle.checks.specs.Checks.{_!_, first}
+use Rattle.checks.specs.Checks.{first}
 use Rattle.checks.proofs.Checks.{first-append}
 use Rattle.checks.proofs.Tests.{left, case, passes}
 use Rattle.limits.specs.declared.Table.{Table}
@@ -17,15 +17,16 @@ use Rattle.shift.specs.declared.Step.the-variants.{FromNeutral, GearToGear, ToN
 use Rattle.manual.specs.declared.Variables.{Variables}
 use Rattle.manual.specs.Variables.{timeOf, initialisation}
 use Rattle.manual.specs.Events.{answered, orElse}
-use Rattle.manual.specs.Ticks.{inTime, refusing, stageLimits, phaseLimits}
+use Rattle.manual.specs.Ticks.{past, refusing, clockLimit, stageLimits, phaseLimits}
 use Rattle.manual.specs.Steps.{stepped}
+use Rattle.manual.proofs.GuardLaws.{within}
 use Rattle.manual.proofs.Places.{Place, phaseOf, varsAt, has, orders, lasts, fallible, stages, valid}
 use Rattle.manual.proofs.Ways.{goes, leads}
 use Rattle.manual.proofs.Places.Place.{rest, at, done, error}
 use Rattle.manual.proofs.Same.{steps}
 use Rattle.manual_agreement.proofs.Every.{every, in-each-phase, at-each-place, each, amount}
 use Rattle.manual_agreement.proofs.Joined.{taken}
-use Rattle.manual_invariants.proofs.ListLaws.{Each, all, each→all, tail, each-tail, each-append, none-refuses}
+use Rattle.manual_invariants.proofs.ListLaws.{Each, all, each→all, tail, each-tail, each-append, refusedBy, none-refuses}
 use Rattle.manual_invariants.proofs.Standing.{StandsAt, at-start, goes-there, stands-on}
 
 -- ---- bounds
@@ -94,6 +95,10 @@ module _ (t : Table) (w : Variables) where
   abbrev inLimit : ℕ → ℕ → Bool
   inLimit n p = leb (w .time + n) (began w p + limitOf t p false)
 
+  -- the same, by how much it is passed
+  abbrev notPast : ℕ → ℕ → Bool
+  notPast n p = eqb (w .time + n - (began w p + limitOf t p false)) 0
+
   abbrev inShift : (ℕ → List Bool) → Place → List Bool
   inShift f (rest b) = tests (rest b)
   inShift f (at p g) = f p
@@ -146,10 +151,13 @@ module _ (t : Table) (w : Variables) where
     at-a-place = at-each-place found wanted resting shifting ended failed
 
     -- of the guards of Tick_Tock on phases one is left, that of the place's phase
+    abbrev phaseGuards : ℕ → ℕ → List Bool
+    phaseGuards p g = map (λ (x : ℕ). eqb x 0) (phaseLimits t (varsAt (at p g) w) (w .time + n))
+
     ticking :
-        map (λ (g : ℕ). map (λ (p : ℕ). all (phaseLimits t (varsAt (at p g) w) (w .time + n))) orders) stages
-        ≡ map (λ (g : ℕ). map (λ (p : ℕ). inLimit n p && true) orders) stages
-    unfolding inTime varsAt
+        map (λ (g : ℕ). map (λ (p : ℕ). all (phaseGuards p g)) orders) stages
+        ≡ map (λ (g : ℕ). map (λ (p : ℕ). notPast n p && true) orders) stages
+    unfolding past varsAt
     ticking = refl
 
     -- an accepted tick keeps it
@@ -157,22 +165,23 @@ module _ (t : Table) (w : Variables) where
     unfolding varsAt
     ticked p g h z =
         let now = w .time + n in
-        let phases = phaseLimits t (varsAt (at p g) w) now in
-        let others = (leb now 4294967295 ! 13) ∷ refusing 12 (stageLimits t (varsAt (at p g) w) now) in
-        let e = in-each-phase (λ (k : ℕ) (j : ℕ). all (phaseLimits t (varsAt (at k j) w) now)) (λ (k : ℕ) (j : ℕ). inLimit n k && true) ticking p g h in
-        left (inLimit n p) true (subst T e (each→all phases (none-refuses 11 phases tt (first-append 0 others (refusing 11 phases) tt z .1))))
+        let others = refusing 13 (clockLimit now) ++ refusing 12 (stageLimits t (varsAt (at p g) w) now) in
+        let phases = refusedBy 11 (phaseGuards p g) in
+        let e = in-each-phase (λ (k : ℕ) (j : ℕ). all (phaseGuards k j)) (λ (k : ℕ) (j : ℕ). notPast n k && true) ticking p g h in
+        subst T (sym (within now (began w p + limitOf t p false)))
+        (left (notPast n p) true (subst T e (each→all (phaseGuards p g) (none-refuses 11 (phaseGuards p g) tt (first-append 0 others phases tt z .1)))))
 
   -- a take in an engine phase asks for EX, any other for no time
   taking :
       map (λ (p : ℕ). answered (stepped t (varsAt (at p 3) w) Take)) orders
-      ≡ map (λ (p : ℕ). first (refusing 10 (inEx p))) orders
+      ≡ map (λ (p : ℕ). first (refusedBy 10 (inEx p))) orders
   unfolding orElse varsAt
   taking = refl
 
   took : (p g : ℕ) → T (valid (at p g)) → eqb g 3 ≡ true → answered (stepped t (varsAt (at p g) w) Take) ≡ 0 → Each (inEx p)
   took p g h e z =
       let a =
-      every (λ (k : ℕ). answered (stepped t (varsAt (at k 3) w) Take)) (λ (k : ℕ). first (refusing 10 (inEx k))) orders taking
+      every (λ (k : ℕ). answered (stepped t (varsAt (at k 3) w) Take)) (λ (k : ℕ). first (refusedBy 10 (inEx k))) orders taking
       p (left (has p orders) (has g stages) h) in
       let y = subst (λ (j : ℕ). answered (stepped t (varsAt (at p j) w) Take) ≡ 0) (eqb→eq g 3 (passes (eqb g 3) e)) z in
       none-refuses 10 (inEx p) tt (sym a ∙ y)

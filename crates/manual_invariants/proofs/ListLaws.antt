@@ -5,10 +5,9 @@ use mathlib.Core.Bool.{Bool, true, not, _&&_}
 use mathlib.Core.List.{List, [], _∷_, map, _++_}
 use Prim.Native.Nat.{ℕ}
 use lib.Dec.{T, eqb}
-use Rattle.checks.specs.Checks.{first}
+use Rattle.checks.specs.Checks.{Check, _!_, first}
 use Rattle.checks.proofs.Checks.{Holds, absent, first→holds}
 use Rattle.checks.proofs.Tests.{left, right, both}
-use Rattle.manual.specs.Ticks.{refusing}
 use Rattle.manual_invariants.specs.Invariants.{Invariant, Hold}
 
 -- all of them hold
@@ -42,16 +41,19 @@ each-append [] cs g h = h
 each-append (b ∷ bs) cs g h = (g .0, each-append bs cs (g .1) h)
 
 -- ---- guards with one number, not 0: where their answer is 0, they hold
-numbered : (k : ℕ) (bs : List Bool) → T (not (eqb k 0)) → T (absent 0 (refusing k bs))
-numbered k [] h = tt
-numbered k (b ∷ bs) h = both (not (eqb k 0)) (absent 0 (refusing k bs)) h (numbered k bs h)
+abbrev pub refusedBy : ℕ → List Bool → List Check
+refusedBy k = map (λ (b : Bool). b ! k)
 
-tested : (k : ℕ) (bs : List Bool) → Holds (refusing k bs) → Each bs
+numbered : (k : ℕ) (bs : List Bool) → T (not (eqb k 0)) → T (absent 0 (refusedBy k bs))
+numbered k [] h = tt
+numbered k (b ∷ bs) h = both (not (eqb k 0)) (absent 0 (refusedBy k bs)) h (numbered k bs h)
+
+tested : (k : ℕ) (bs : List Bool) → Holds (refusedBy k bs) → Each bs
 tested k [] h = tt
 tested k (b ∷ bs) h = (h .0, tested k bs (h .1))
 
-pub none-refuses : (k : ℕ) (bs : List Bool) → T (not (eqb k 0)) → first (refusing k bs) ≡ 0 → Each bs
-none-refuses k bs h z = tested k bs (first→holds 0 (refusing k bs) (numbered k bs h) z .0)
+pub none-refuses : (k : ℕ) (bs : List Bool) → T (not (eqb k 0)) → first (refusedBy k bs) ≡ 0 → Each bs
+none-refuses k bs h z = tested k bs (first→holds 0 (refusedBy k bs) (numbered k bs h) z .0)
 
 -- ---- invariants
 abbrev pub formulas : List Invariant → List Bool

@@ -18,7 +18,7 @@ use Rattle.manual.specs.declared.Moved.{Moved}
 use Rattle.manual.specs.Variables.{initialisation}
 use Rattle.manual.specs.Events.{answered}
 use Rattle.manual.specs.Steps.{stepped}
-use Rattle.manual.specs.Answers.{numberOf, ledTo, moveTo, moved, admitting, movedOn}
+use Rattle.manual.specs.Answers.{numberOf, excessOf, ledTo, moveTo, moved, admitting, movedOn}
 use Rattle.manual.specs.Runs.{Outcome, after, run}
 use Rattle.manual.proofs.Places.{Place, varsAt, valid}
 use Rattle.manual.proofs.Ways.{goes, leads}
@@ -56,20 +56,21 @@ module _ (t : Table) (P : Variables → Type 0) (keeps : (v : Variables) (x : St
   goes-on v WrongCode i z = i
   goes-on v WrongAmount i z = i
 
-  one-more : (k : ℕ) (v : Variables) (o : Outcome) → P v → (k ≡ 0 → P (o .variables)) → P (after k v o .variables)
-  one-more zero v o i f = f refl
-  one-more (suc k) v o i f = i
+  one-more : (k over : ℕ) (v : Variables) (o : Outcome) → P v → (k ≡ 0 → P (o .variables)) → P (after k over v o .variables)
+  one-more zero over v o i f = f refl
+  one-more (suc k) over v o i f = i
 
   -- what each accepted step keeps holds at the end of a run
   pub run-keeps : (v : Variables) (rs : List Reading) → P v → P (run t v rs .variables)
   run-keeps v [] i = i
   run-keeps v (r ∷ rs) i =
-      one-more (numberOf t v r) v (run t (ledTo t v r) rs) i (λ z. run-keeps (ledTo t v r) rs (goes-on v r i z))
+      one-more (numberOf t v r) (excessOf t v r) v (run t (ledTo t v r) rs) i
+      (λ z. run-keeps (ledTo t v r) rs (goes-on v r i z))
 
   -- and after a call that answers as the definition of one step says
-  answered-so : (k : ℕ) (v v′ : Variables) → P v → (k ≡ 0 → P v′) → P (moveTo k v′ v .variables)
-  answered-so zero v v′ i f = f refl
-  answered-so (suc k) v v′ i f = i
+  answered-so : (k over : ℕ) (v v′ : Variables) → P v → (k ≡ 0 → P v′) → P (moveTo k over v′ v .variables)
+  answered-so zero over v v′ i f = f refl
+  answered-so (suc k) over v v′ i f = i
 
   admitted-so : (k : ℕ) (m : Moved) (v : Variables) → P v → P (m .variables) → P (admitting k m v .variables)
   admitted-so zero m v i j = j
@@ -78,4 +79,5 @@ module _ (t : Table) (P : Variables → Type 0) (keeps : (v : Variables) (x : St
   pub call-keeps : (v : Variables) (code middle n : ℕ) → P v → P (movedOn t v code middle n .variables)
   call-keeps v code middle n i =
       let r = reading code middle n in
-      admitted-so (brokenRule t) (moved t v r) v i (answered-so (numberOf t v r) v (ledTo t v r) i (goes-on v r i))
+      admitted-so (brokenRule t) (moved t v r) v i
+      (answered-so (numberOf t v r) (excessOf t v r) v (ledTo t v r) i (goes-on v r i))
