@@ -23,8 +23,8 @@ abbrev pub acted : List (Variables → Variables) → Variables → Variables
 acted [] v = v
 acted (a ∷ rest) v = acted rest (a v)
 
--- enabled: the guards on flags hold. Its number is 0, or that of the first other guard that does not hold; its excess
--- is the milliseconds by which its guard on times fails, 0 where that holds
+-- enabled: the guards on flags hold. Its number is 0, or that of the first other guard that does not hold; its excess is the
+-- milliseconds by which its guard on times fails, 0 where that holds
 abbrev pub timed : ℕ → List Check → List (Variables → Variables) → Variables → Event
 timed excess guards actions v = record {
   enabled = flagsHold true guards;
@@ -41,7 +41,7 @@ event = timed 0
 abbrev pub answered : Event → ℕ
 answered e = cond (e .enabled) (e .number) 7
 
--- and its excess
+-- and its excess: 0 where it is not enabled
 abbrev pub exceeded : Event → ℕ
 exceeded e = cond (e .enabled) (e .excess) 0
 

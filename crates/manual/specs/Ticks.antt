@@ -129,16 +129,16 @@ abbrev pub stageLimits : Table → Variables → ℕ → List ℕ
 stageLimits t v now =
     engineChannel t v now ++ (clutchChannel t v now ++ (gearChannel t v now ++ devices t v now))
 
--- 01: the clock has 32 bits; not printed
+-- the clock's end
 abbrev pub clockLimit : ℕ → List ℕ
-clockLimit now = (now - 4294967295) ∷ []
+clockLimit now = (now - 4294967295) ∷ []  -- 01: the clock has 32 bits; not printed
 
 -- The numbers come in document 01's order, so that the phases are asked last. grd1, tick > 0, is asked of the record, with 6.
 abbrev pub tickGuards : Table → Variables → ℕ → List Check
 tickGuards t v now =
     refusing 13 (clockLimit now) ++ (refusing 12 (stageLimits t v now) ++ refusing 11 (phaseLimits t v now))
 
--- that of the guard whose number it is
+-- the excess is that of the guard that gives the number
 abbrev pub tickExcess : Table → Variables → ℕ → ℕ
 tickExcess t v now = firstPast (clockLimit now ++ (stageLimits t v now ++ phaseLimits t v now))
 

@@ -207,7 +207,7 @@ fn answered(enabled: bool, number: u8) -> u8
     if enabled { number } else { 7 }
 }
 
-// And its excess.
+// And its excess: 0 where it is not enabled.
 fn exceeded(enabled: bool, excess: u64) -> u64
     ensures { λ r. ⌜ r ≡ cond enabled excess 0 ⌝ }
 {

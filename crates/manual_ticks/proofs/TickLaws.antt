@@ -13,6 +13,11 @@ use Rattle.manual.specs.declared.Variables.{Variables}
 use Rattle.manual.specs.Ticks.{pastElse, firstPast, refusing, phaseLimits, stageLimits, clockLimit, tickGuards}
 use Rattle.manual.proofs.GuardLaws.{alone, before}
 
+grouped : (x y z : ℕ) → pastElse (pastElse x y) z ≡ pastElse x (pastElse y z)
+unfolding pastElse
+grouped zero y z = refl
+grouped (suc x) y z = refl
+
 -- ---- the first of some guards that is passed
 
 -- where x is found before a guard, one is found with it, of which P holds
@@ -25,14 +30,11 @@ abbrev pub OneByOne : ℕ → List ℕ → ℕ → Type 0
 OneByOne x [] r = r ≡ x
 OneByOne x (y ∷ ys) r = Found x y (λ k. OneByOne k ys r)
 
-further : (x y z : ℕ) {k r : ℕ} → k ≡ pastElse x y → r ≡ pastElse k z → r ≡ pastElse x (pastElse y z)
-unfolding pastElse
-further zero y z e f = f ∙ ap (λ j. pastElse j z) e
-further (suc x) y z e f = f ∙ ap (λ j. pastElse j z) e
-
 found : (x : ℕ) (ys : List ℕ) {r : ℕ} → OneByOne x ys r → r ≡ pastElse x (firstPast ys)
 found x [] e = e ∙ sym (alone x)
-found x (y ∷ ys) (e then f) = further x y (firstPast ys) e (found _ ys f)
+found x (y ∷ ys) (e then f) =
+    let z = firstPast ys in
+    found _ ys f ∙ (ap (λ k. pastElse k z) e ∙ grouped x y z)
 
 pub one-by-one : {r : ℕ} (ys : List ℕ) → OneByOne 0 ys r → r ≡ firstPast ys
 unfolding pastElse
@@ -54,15 +56,10 @@ numbers n [] rest = refl
 numbers n (x ∷ xs) rest =
     counted x (firstPast xs) n (first rest) (first (refusing n xs ++ rest)) (numbers n xs rest)
 
-joined : (x y z w : ℕ) → w ≡ pastElse y z → pastElse x w ≡ pastElse (pastElse x y) z
-unfolding pastElse
-joined zero y z w e = e
-joined (suc x) y z w e = refl
-
 in-two : (xs ys : List ℕ) → firstPast (xs ++ ys) ≡ pastElse (firstPast xs) (firstPast ys)
 unfolding pastElse
 in-two [] ys = refl
-in-two (x ∷ xs) ys = joined x (firstPast xs) (firstPast ys) (firstPast (xs ++ ys)) (in-two xs ys)
+in-two (x ∷ xs) ys = ap (pastElse x) (in-two xs ys) ∙ sym (grouped x (firstPast xs) (firstPast ys))
 
 module _ (n : ℕ) (xs ys : List ℕ) (rest : List Check) {x : ℕ} (p : x ≡ firstPast xs) where
   stops : ¬ (x ≡ 0) → Refused n x (refusing n xs ++ rest) (xs ++ ys)
