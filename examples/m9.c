@@ -3,9 +3,9 @@
  *     m9 FILE
  *
  * Each record gives a line: its index, its code, and for a tick its amount; then the flags that it raises (+) and lowers (-), and the
- * times that it sets. What is refused gives its number, and ends the list. The status is 0 where every record is accepted, 1 where one
- * is refused or the file can't be read as a step file, 2 where the file can not be read at all, and 3 where the output can not be
- * written.
+ * times that it sets. What is refused gives its number, with 9 to 13 how far over it is, and ends the list. The status is 0 where every
+ * record is accepted, 1 where one is refused or the file can't be read as a step file, 2 where the file can not be read at all, and 3
+ * where the output can not be written.
  */
 #include <stdio.h>
 
@@ -50,7 +50,10 @@ static int accepted(size_t length)
             printf(" of %u", (unsigned)(record[2] + 256 * record[3]));
         munasirel_m9_moved moved = munasirel_m9_advance(now, table, record[0], record[1], record[2], record[3]);
         if (moved.number != 0) {
-            printf(" refused %u\n", (unsigned)moved.number);
+            printf(" refused %u", (unsigned)moved.number);
+            if (moved.excess > 0)
+                printf(", %llu ms %s", (unsigned long long)moved.excess, moved.number == MUNASIREL_TOO_EARLY ? "too early" : "over");
+            printf("\n");
             return 0;
         }
         show(&now, &moved.variables);

@@ -1,8 +1,8 @@
 /* The functions of libmunasirel_m9.a: the manual's machine m9, a second engine that answers as the running judge of munasirel.h does
  * and keeps the manual's own flags and times. Linked before libmunasirel.a, where a program calls both.
  *
- * A list of records is answered by both alike, from their starts on: accepted or refused by the same number, record by record, and the
- * variables read as the state. docs/MANUAL.md has the events, what was settled in them, and which flags are up when.
+ * A list of records is answered by both alike, from their starts on: accepted, or refused by the same number and as far over, record by
+ * record, and the variables read as the state. docs/MANUAL.md has the events, what was settled in them, and which flags are up when.
  *
  * Everything goes by value: nothing is lent, kept or allocated.
  */
@@ -150,10 +150,12 @@ typedef struct munasirel_m9_variables {
     each(Gear_Request_SetT) each(Engine_SyncSpeedT) each(Engine_ZeroTorqueT) each(Clutch_OpenT) each(Clutch_CloseT) \
     each(Gear_ReleaseT) each(Gear_SetT)
 
-/* The answer of one step: its number, the broken rule with 4 and else 0, and the variables after it or, refused, those given. */
+/* The answer of one step: its number, the broken rule with 4 and else 0, how far over it is with 9 to 13 and else 0, and the variables
+ * after it or, refused, those given. The excess counts milliseconds, as that of munasirel_advance does. */
 typedef struct munasirel_m9_moved {
     uint8_t number;
     uint8_t rule;
+    uint64_t excess;
     munasirel_m9_variables variables;
 } munasirel_m9_moved;
 
@@ -176,7 +178,7 @@ munasirel_m9_variables munasirel_m9_start(void);
  *   variables                 any variables; each bool holds true or false, as a bool does that was never written by other means
  *   table                     the limits to judge under
  *   code, middle, low, high   the record's four bytes in their order
- * Returns the answer, with the numbers of munasirel_advance. */
+ * Returns the answer, with the numbers and the excess of munasirel_advance. */
 munasirel_m9_moved munasirel_m9_advance(munasirel_m9_variables variables, munasirel_limits table, uint8_t code, uint8_t middle,
                                         uint8_t low, uint8_t high);
 
@@ -199,8 +201,10 @@ MUNASIREL_HOLDS(offsetof(munasirel_m9_variables, isNeu) == 16);
 MUNASIREL_HOLDS(offsetof(munasirel_m9_variables, FromNeu_OpenClutchT) == 32);
 MUNASIREL_HOLDS(offsetof(munasirel_m9_variables, Engine_SyncSpeed) == 120);
 MUNASIREL_HOLDS(offsetof(munasirel_m9_variables, Gear_SetT) == 204);
-MUNASIREL_HOLDS(sizeof(munasirel_m9_moved) == 212);
-MUNASIREL_HOLDS(offsetof(munasirel_m9_moved, variables) == 4);
+MUNASIREL_HOLDS(sizeof(munasirel_m9_moved) == 224);
+MUNASIREL_HOLDS(offsetof(munasirel_m9_moved, rule) == 1);
+MUNASIREL_HOLDS(offsetof(munasirel_m9_moved, excess) == 8);
+MUNASIREL_HOLDS(offsetof(munasirel_m9_moved, variables) == 16);
 MUNASIREL_HOLDS(sizeof(munasirel_m9_read) == 24);
 MUNASIREL_HOLDS(offsetof(munasirel_m9_read, request_time) == 20);
 #undef MUNASIREL_HOLDS
