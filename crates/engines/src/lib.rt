@@ -8,6 +8,7 @@ use manual_reading::Read;
 use printing::number;
 use printing::number8;
 use printing::number32;
+use printing::number64;
 use shift::Answer;
 use shift::State;
 
@@ -48,6 +49,7 @@ fn print_manual(table: Table, records: &[u8]) {
     let mut moved = Moved {
         number: 0,
         rule: 0,
+        excess: 0,
         variables: Variables::initialisation(),
     };
     let mut accepted: usize = 0;
@@ -60,7 +62,7 @@ fn print_manual(table: Table, records: &[u8]) {
         }
         accepted += 1;
     }
-    print_end(moved.number, moved.rule, accepted);
+    print_end(moved.number, moved.rule, accepted, moved.excess);
     print_variables(moved.variables);
 }
 
@@ -75,6 +77,7 @@ fn print_ours(table: Table, records: &[u8]) {
     let mut answer = Answer {
         number: 0,
         rule: 0,
+        excess: 0,
         state: State::start(),
     };
     let mut accepted: usize = 0;
@@ -87,15 +90,16 @@ fn print_ours(table: Table, records: &[u8]) {
         }
         accepted += 1;
     }
-    print_end(answer.number, answer.rule, accepted);
+    print_end(answer.number, answer.rule, accepted, answer.excess);
     printing::state(answer.state);
 }
 
-// The last number, its rule, and how many records were accepted.
-fn print_end(last: u8, rule: u8, accepted: usize) {
+// The last number, its rule, how many records were accepted, and the last excess.
+fn print_end(last: u8, rule: u8, accepted: usize, excess: u64) {
     number8(last);
     number8(rule);
     number(accepted);
+    number64(excess);
 }
 
 // The variables of type BOOL.

@@ -6,9 +6,13 @@ use limits::Table;
 use shift::State;
 
 // A space and a number in decimal.
-pub fn number(n: usize) {
+pub fn number64(n: u64) {
     io::write_all(STDOUT_FILENO, b" ");
-    io::print_decimal(STDOUT_FILENO, n as u64);
+    io::print_decimal(STDOUT_FILENO, n);
+}
+
+pub fn number(n: usize) {
+    number64(n as u64);
 }
 
 pub fn number32(n: u32) {
