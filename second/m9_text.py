@@ -55,6 +55,13 @@ def bounded(relation, time, limit):
     return f"time {relation} {time} + {limit}"
 
 
+def over(relation, label, time, limit):
+    """The excess of an event whose guard of this label is on a time: its label, and what it is measured against."""
+    if relation == "≥":
+        return f"before {label}", f"{time} + {limit} - time"
+    return f"past {label}", f"time - ({time} + {limit})"
+
+
 def deadline(up, down, time, limit):
     """A guard of Tick_Tock."""
     flags = [f"{flag} = TRUE" for flag in up] + [f"{flag} = FALSE" for flag in down]
@@ -133,16 +140,26 @@ def guard_said(guard):
     return guard.label, guarded(formula, number, mark_of(guard))
 
 
-def manual_events(flags_first):
-    """The facts of the events; in code the guards on flags come first."""
+def overs_said(guards):
+    """The excess of an event that has a guard on a time."""
+    for guard in guards:
+        if number_of(guard.stands) in (TOO_EARLY, TOO_LATE):
+            relation, time, limit = bound_of(guard.stands)
+            yield over(relation, guard.label, time, LIMITS[limit])
+
+
+def manual_events(in_code):
+    """The facts of the events; definitions have the excess first, code the guards on flags, and the excess behind all guards."""
     for event in EVENTS.values():
         if event.name == "RESET":
             event = unmarked(event)
         # Tick_Tock's grd1, tick > 0, is asked of the record.
         guards = [guard for guard in event.guards if guard.stands != "tick > 0"]
-        if flags_first and event.name != "Tick_Tock":
+        if in_code and event.name != "Tick_Tock":
             guards.sort(key=lambda guard: number_of(guard.stands) != NOT_ALLOWED)
-        yield from clauses(event.name, [*map(guard_said, guards), *map(action_said, event.actions)])
+        said, overs = [*map(guard_said, guards)], [*overs_said(guards)]
+        yield from clauses(event.name, (said + overs if in_code else overs + said) + [*map(action_said, event.actions)])
+    yield "Tick_Tock: the clock's end", f"{LAST_CLOCK}, else {PAST_CLOCK}"
 
 
 def manual_definitions():
@@ -150,8 +167,8 @@ def manual_definitions():
     flags, times = [name for name in BOOLS if name != "isNeu"], [name for name in NATURALS if name != "time"]
     place = {name: number for number, name in enumerate(START, 1)}
     yield "the events in order", " ".join(EVENTS)
-    yield from manual_events(flags_first=False)
-    yield "Tick_Tock: the clock's end", f"{LAST_CLOCK}, else {PAST_CLOCK}"
+    yield from manual_events(in_code=False)
+    yield "Tick_Tock: its excess", "of the first that is passed of clockLimit stageLimits phaseLimits"
     for code, name in STEP_NAMES.items():
         events = [event.name for event in m9.M9.events[code]] or ["Tick_Tock"]
         yield f"step {name}", " ".join(events)
@@ -168,7 +185,7 @@ def manual_code():
     """The facts that the code has to say."""
     for crate, names in CRATES.items():
         yield f"the events of {crate} in order", " ".join(name for name in EVENTS if re.match(names, name))
-    yield from manual_events(flags_first=True)
+    yield from manual_events(in_code=True)
     yield "the variables in order", " ".join(f"{name}: {'bool' if name in BOOLS else 'u32'}" for name in START)
     for name, value in START.items():
         yield f"initialisation of {name}", str(value).lower()
@@ -227,6 +244,10 @@ ANTT_GUARDS = (
     (r"\(leb \(v \.(\w+) \+ t \.(\w+)\) \(v \.time\) ! (\d+)\)",
      lambda time, limit, number: (bounded("≥", time, entry_of(limit)), number)),
 )
+ANTT_OVERS = (
+    (r"\(v \.time - \(v \.(\w+) \+ t \.(\w+)\)\)", lambda time, limit: ("≤", time, entry_of(limit))),
+    (r"\(\(v \.(\w+) \+ t \.(\w+)\) - v \.time\)", lambda time, limit: ("≥", time, entry_of(limit))),
+)
 ANTT_ACTIONS = (
     (r"raise Flag\.(\w+)", lambda flag: f"{flag} := TRUE"),
     (r"lower Flag\.(\w+)", lambda flag: f"{flag} := FALSE"),
@@ -235,10 +256,23 @@ ANTT_ACTIONS = (
 )
 
 
+def over_read(patterns, piece, comment):
+    """An excess: its label, and what it is measured against."""
+    relation, time, limit = matched(patterns, piece)
+    words, label = label_in(comment).rsplit(" ", 1)
+    wanted, said = over(relation, label, time, limit)
+    return f"{words} {label}", said if wanted == f"{words} {label}" else f"{said}, which is {wanted}"
+
+
 def antt_event(name, body):
-    """The facts of an event's definition: `event (guards) (actions) v`, each guard and action with a comment."""
-    found, read = [], guard_read
-    for piece, comment in commented(body, "--"):
+    """The facts of an event's definition: `event (guards) (actions) v`, or `timed (excess) (guards) (actions) v`.
+
+    The excess, each guard and each action have a comment.
+    """
+    kind, body = re.match(r"\s*(event|timed)\b(.*)", body, re.DOTALL).groups()
+    pieces, read = commented(body, "--"), guard_read
+    found = [over_read(ANTT_OVERS, *pieces.pop(0))] if kind == "timed" else []
+    for piece, comment in pieces:
         begun = piece.startswith("(")
         if "∷ []) (" in piece:
             piece, read, begun = piece.split("∷ []) ", 1)[1], action_read, True
@@ -285,7 +319,7 @@ def conjunction(text, negated, flag):
 
 def antt_deadline(piece, comment, number):
     """A guard of Tick_Tock's definition."""
-    found = re.fullmatch(r"(?:∷ )?inTime \((.*)\) now \(v \.(\w+)\) \(t \.(\w+)\)", piece)
+    found = re.fullmatch(r"(?:∷ )?past \((.*)\) now \(v \.(\w+)\) \(t \.(\w+)\)", piece)
     if not found:
         raise Unread(f"can't be read: {piece}")
     up, down = conjunction(found.group(1), r"not \(v \.(\w+)\)", r"v \.")
@@ -304,12 +338,18 @@ def antt_ticks(text):
             for piece, comment in commented(bodies[group][1], "--"):
                 found.append((label_in(comment), antt_deadline(piece, comment, numbers.get(limits, "no number"))))
     event = plain(bodies["Tick_Tock"][1])
-    acts = "after = pass tick v; -- act1" in event and "first (tickGuards t v (v .time + tick))" in event
+    number, excess = ("first (tickGuards t v (v .time + tick))", "tickExcess t v (v .time + tick)")
+    acts = event == f"record {{ enabled = true; number = {number}; excess = {excess}; after = pass tick v; -- act1 }}"
     found.append(("act1", "time := time + tick" if acts else event))
     yield from clauses("Tick_Tock", found)
-    order = list(numbers) == ["stageLimits", "phaseLimits"] and plain(bodies["tickGuards"][1])
-    first = re.match(r"\(leb now (\d+) ! (\d+)\) -- 01: [^∷]*; not printed ∷ \(refusing", order or "")
-    yield "Tick_Tock: the clock's end", "{}, else {}".format(*first.groups()) if first else str(order)
+    guards, last = plain(bodies["tickGuards"][1]), plain(bodies["clockLimit"][1])
+    first = re.fullmatch(r"refusing (\d+) \(clockLimit now\) \+\+ \(refusing \d+ \(stageLimits t v now\)"
+                         r" \+\+ refusing \d+ \(phaseLimits t v now\)\)", guards)
+    end = re.fullmatch(r"\(now - (\d+)\) ∷ \[\] -- 01: .*; not printed", last)
+    yield "Tick_Tock: the clock's end", f"{end.group(1)}, else {first.group(1)}" if first and end else f"{last} {guards}"
+    excess = plain(bodies["tickExcess"][1])
+    limits = re.fullmatch(r"firstPast \((\w+) now \+\+ \((\w+) t v now \+\+ (\w+) t v now\)\)", excess)
+    yield "Tick_Tock: its excess", f"of the first that is passed of {' '.join(limits.groups())}" if limits else excess
 
 
 def antt_reset(text):
@@ -352,7 +392,7 @@ def definition_facts(texts):
     for file in EVENT_SPECS:
         for name, _, body in definitions_in(texts[file]):
             names.append(name)
-            yield from antt_event(name, re.sub(r"^\s*event\b", "", body))
+            yield from antt_event(name, body)
     for file in (TICKS, RESETS):
         names += [name for name, _, _ in definitions_in(texts[file]) if name in EVENTS]
     yield "the events in order", " ".join(names)
@@ -394,6 +434,10 @@ CODE_GUARDS = (
     (r"let number = on_side\(v\.(isNeu)\)", lambda flag: (f"{flag} = TRUE", WRONG_BOX)),
     (r"let number = on_side\(!v\.(isNeu)\)", lambda flag: (f"{flag} = FALSE", WRONG_BOX)),
 )
+CODE_OVERS = (
+    (r"let excess = late_by\(v\.time, v\.(\w+), table\.(\w+)\)", lambda time, limit: ("≤", time, entry_of(limit))),
+    (r"let excess = early_by\(v\.time, v\.(\w+), table\.(\w+)\)", lambda time, limit: ("≥", time, entry_of(limit))),
+)
 CODE_ACTIONS = (
     (r"v\.(\w+) = (true|false)", lambda flag, value: f"{flag} := {value.upper()}"),
     (r"v\.(\w+) = v\.time", lambda time: f"{time} := time"),
@@ -413,44 +457,59 @@ def code_event(name, body):
         piece = re.sub(r"^(let enabled =|&) ", "", piece).rstrip(";").strip()
         if label.startswith("act") or label == REQUESTED:
             found.append((label, marked(matched(CODE_ACTIONS, piece) if piece else "nothing", comment)))
+        elif piece.startswith("let excess "):
+            found.append(over_read(CODE_OVERS, piece, comment))
         else:
             found.append((label, guarded(*matched(CODE_GUARDS, piece), mark_in(comment))))
     numbered = any(f"else {number}" in said for label, said in found for number in (WRONG_BOX, TOO_EARLY, TOO_LATE))
+    timed = "let excess " in body
     rest = plain(body.rsplit("//", 1)[1].split("\n", 1)[1])
-    if rest != f"Event {{ enabled, number{'' if numbered else ': 0'}, after: v, }}":
+    if rest != f"Event {{ enabled, number{'' if numbered else ': 0'}, excess{'' if timed else ': 0'}, after: v, }}":
         raise Unread(f"{name}: can't be read to its end: {rest}")
     return clauses(name, found)
 
 
 def code_reset(name, body):
     """The facts of RESET's function, which has no labels."""
-    found = re.fullmatch(r"let enabled = ([^;]*); ((?:v\.\w+ = false; )*)Event { enabled, number: 0, after: v, }", plain(body))
+    found = re.fullmatch(r"let enabled = ([^;]*); ((?:v\.\w+ = false; )*)"
+                         r"Event { enabled, number: 0, excess: 0, after: v, }", plain(body))
     flags, number = matched(CODE_GUARDS, found.group(1))
     lowered = re.findall(r"v\.(\w+) = false;", found.group(2))
     return clauses(name, [("grd1", guarded(flags, number, "")), *lowering(lowered)])
 
 
-# A guard of Tick_Tock in code: the comment before it, its label, the flag that is up and those that are down, its time and its limit.
+# A guard of Tick_Tock in code: the comment before it, its label, what was found before it, the flag that is up and those that are
+# down, its time and its limit.
 UNTIL = (r"(?://([^\n]*)\n\s*)?let (grd\d+) = "
-         r"until\w*\(\s*v\.(\w+),\s*((?:v\.\w+,\s*)+)now,\s*v\.(\w+),\s*table\.(\w+),?\s*\);")
+         r"until\w*\(\s*(\w+),\s*v\.(\w+),\s*((?:v\.\w+,\s*)+)now,\s*v\.(\w+),\s*table\.(\w+),?\s*\);")
+# What Tick_Tock asks for, and the number that it answers where that is not 0, with it as the excess.
+ANSWERED = (r"let (\w+) = ([\w:]+)\(([^()]*)\); if \1 != 0 "
+            r"{ return Moved { number: (\d+), rule: 0, excess: \1, variables: v, }; }")
 
 
 def code_ticks(text):
     """The facts of Tick_Tock's functions."""
     bodies = dict(functions_in(text))
-    numbers = dict(re.findall(r"if !(\w+)\(v, table, now\) \{\s*return (\d+);", bodies["guarded"]))
+    answered = [(asked, values, number) for _, asked, values, number in re.findall(ANSWERED, plain(bodies["Tick_Tock"]))]
+    if [asked for asked, _, _ in answered] != ["times::beyond", "stage_limits", "phase_limits"]:
+        raise Unread("Tick_Tock: what it asks for can't be read")
+    numbers = {asked: number for asked, values, number in answered if values == "v, table, now"}
     found = []
     for limits in ("phase_limits", "stage_limits"):
         asked = re.findall(UNTIL, bodies[limits])
-        for comment, label, up, down, time, limit in asked:
+        for comment, label, _, up, down, time, limit in asked:
             mark = mark_in(plain(comment)) if label_in(plain(comment)) == label else ""
             formula = deadline([up], re.findall(r"v\.(\w+)", down), time, entry_of(limit))
             found.append((label, guarded(formula, numbers.get(limits, "no number"), mark)))
-        if " & ".join(label for _, label, *_ in asked) != plain(bodies[limits]).rsplit("; ", 1)[1]:
+        labels = [label for _, label, *_ in asked]
+        handed_on = [before for _, _, before, *_ in asked] + [plain(bodies[limits]).rsplit("; ", 1)[1]]
+        if handed_on != ["0", *labels]:
             raise Unread(f"{limits}: its guards are not all asked")
     acts = re.findall(r"after\.(\w+) = v\.time \+ tick; // (act\d+)", bodies["Tick_Tock"])
     found += [(label, f"{time} := time + tick") for time, label in acts]
-    return clauses("Tick_Tock", found)
+    yield from clauses("Tick_Tock", found)
+    _, values, number = answered[0]
+    yield "Tick_Tock: the clock's end", f"{values.replace('now, ', '')}, else {number}"
 
 
 def code_facts(texts):

@@ -17,6 +17,7 @@ FROM, GEARS, DEVICES, FINAL = (f"{SPECS}/{name}.antt" for name in ("FromNeutral"
 NEUTRAL_CODE, DEVICE_CODE, GEAR_CODE = (EVENT_CODE[f"manual_{name}"] for name in ("neutral", "devices", "gears"))
 
 IS_GOOD, LATE = "(v .«Engine_SyncSpeed» ! 7)  -- grd4", "(leb (v .time) (v .RequestFromNeuT + t .«sync_ex») ! 10)"
+LATE_BY, EARLY_BY = "(v .time - (v .RequestFromNeuT + t .«sync_ex»))", "((v .RequestFromNeuT + t .«sync_de») - v .time)"
 WHY = "; 01: the delay of an engine that synchronizes; printed OpenClutch_Zero_DE"
 
 # A file, a text that stands in it, the text in its place, and what is said of it.
@@ -25,10 +26,16 @@ EDITS = [
     (FROM, IS_GOOD, "(v .«Engine_SyncSpeed» ! 8)  -- grd4", "FromNeu_SyncSpeed grd4"),
     (FROM, IS_GOOD, "(not (v .«Engine_SyncSpeed») ! 7)  -- grd4", "FromNeu_SyncSpeed grd4"),
     (FROM, "    ∷ (v .«Engine_SyncSpeed» ! 7)  -- grd4\n", "", "FromNeu_SyncSpeed grd4"),
-    (FROM, "t .«sync_de»", "t .«zero_de»", "FromNeu_RequestOpenClutch grd4"),
+    (FROM, "t .«sync_de») (v .time)", "t .«zero_de») (v .time)", "FromNeu_RequestOpenClutch grd4"),
     (FROM, WHY, "", "FromNeu_RequestOpenClutch grd4"),
     (FROM, "printed OpenClutch_Zero_DE", "printed OpenClutch_Sync_DE", "FromNeu_RequestOpenClutch grd4"),
     (FROM, LATE, "(leb (v .RequestFromNeuT + t .«sync_ex») (v .time) ! 10)", "FromNeu_SyncSpeed grd5"),
+    (FROM, LATE_BY, LATE_BY.replace("sync", "zero"), "FromNeu_SyncSpeed past grd5"),
+    (FROM, LATE_BY, "((v .RequestFromNeuT + t .«sync_ex») - v .time)", "FromNeu_SyncSpeed past grd5"),
+    (FROM, f"timed\n    {LATE_BY}  -- past grd5", "event", "FromNeu_SyncSpeed past grd5"),
+    (FROM, f"{LATE_BY}  -- past grd5", f"{LATE_BY}  -- past grd4", "FromNeu_SyncSpeed past grd4"),
+    (FROM, EARLY_BY, EARLY_BY.replace("_de", "_ex"), "FromNeu_RequestOpenClutch before grd4"),
+    (GEARS, "(v .time - (v .«NoNeu_Release_NoClutchT»", "(v .time - (v .RequestNoNeuT", "NoNeu_SyncSpeed past grd5"),
     (FROM, "stamp Time.«FromNeu_OpenClutchT»", "stamp Time.«FromNeu_SyncSpeedT»", "FromNeu_OpenClutch act2"),
     (FROM, "abbrev pub «FromNeu_CloseClutch»", "-- «FromNeu_CloseClutch»", "the events in order"),
     (GEARS, "«NoNeu_RequestOpenClutch_Releasing» ! 7)  -- grd1; 01", "«NoNeu_OpenClutch_Releasing» ! 7)  -- grd1; 01",
@@ -54,7 +61,10 @@ EDITS = [
     (TICKS, "(t .«clutch_open_dl»)", "(t .«clutch_close_dl»)", "Tick_Tock grd52"),
     (TICKS, "(v .«Engine_ZeroTorque» && not", "(v .«Engine_SyncSpeed» && not", "Tick_Tock grd27"),
     (TICKS, "refusing 12 (stageLimits", "refusing 11 (stageLimits", "Tick_Tock grd23"),
-    (TICKS, "leb now 4294967295", "leb now 4294967294", "the clock's end"),
+    (TICKS, "(now - 4294967295)", "(now - 4294967294)", "the clock's end"),
+    (TICKS, "(stageLimits t v now ++ phaseLimits t v now)", "(phaseLimits t v now ++ stageLimits t v now)",
+     "Tick_Tock: its excess"),
+    (TICKS, "excess = tickExcess t v (v .time + tick)", "excess = tickExcess t v (v .time)", "Tick_Tock act1"),
     (TICKS, "scenario1 t v now ++ (scenario3 t v now", "scenario3 t v now ++ (scenario1 t v now",
      "Tick_Tock: its labels in order"),
     (STEPS, "    ∷ «Gear_Set» v\n", "", "step DeviceGood"),
@@ -72,6 +82,14 @@ EDITS = [
     (STRUCT, "            isNeu: true,", "            isNeu: false,", "initialisation of isNeu"),
     (NEUTRAL_CODE, "& v.Engine_SyncSpeed; // grd4", "& v.Engine_ZeroTorque; // grd4", "FromNeu_SyncSpeed grd4"),
     (NEUTRAL_CODE, "table.sync_de); // grd4", "table.zero_de); // grd4", "FromNeu_RequestOpenClutch grd4"),
+    (NEUTRAL_CODE, "late_by(v.time, v.RequestFromNeuT, table.sync_ex)", "late_by(v.time, v.RequestFromNeuT, table.zero_ex)",
+     "FromNeu_SyncSpeed past grd5"),
+    (NEUTRAL_CODE, "early_by(v.time, v.RequestFromNeuT", "late_by(v.time, v.RequestFromNeuT",
+     "FromNeu_RequestOpenClutch before grd4"),
+    (GEAR_CODE, "late_by(v.time, v.NoNeu_Release_NoClutchT", "late_by(v.time, v.RequestNoNeuT",
+     "NoNeu_SyncSpeed past grd5"),
+    (GEAR_CODE, "        excess,\n", "        excess: 0,\n", "can't be read to its end"),
+    (DEVICE_CODE, "        excess: 0,\n", "        excess: 1,\n", "can't be read to its end"),
     (NEUTRAL_CODE, "v.isNeu = false; // act2", "v.isNeu = true; // act2", "FromNeu_SetGear_NoClutch act2"),
     (NEUTRAL_CODE, "pub fn FromNeu_SyncSpeed(", "pub fn FromNeu_Synchronized(",
      "the events of manual_neutral in order"),
@@ -82,9 +100,12 @@ EDITS = [
     (GEAR_CODE, "v.isNeu = true; // 02", "v.isNeu = false; // 02", "NoNeu_Release_NoClutch 02"),
     (NEUTRAL_CODE, "    // act2; 02: left out", "    v.isNeu = false; // act2; 02: left out", "FromNeu_CloseClutch act2"),
     (TICK_CODE, "        table.gear_set_dl,", "        table.gear_release_dl,", "Tick_Tock grd55"),
-    (TICK_CODE, "        return 12;", "        return 11;", "Tick_Tock grd55"),
+    (TICK_CODE, "            number: 12,", "            number: 11,", "Tick_Tock grd55"),
+    (TICK_CODE, "            excess: stage,", "            excess: clock,", "what it asks for can't be read"),
+    (TICK_CODE, "beyond(now, 4294967295)", "beyond(now, 4294967294)", "the clock's end"),
     (TICK_CODE, "; 01: until the order is delivered; printed Gear_Set", "", "Tick_Tock grd46"),
-    (TICK_CODE, "        & grd21\n", "", "not all asked"),
+    (TICK_CODE, "        grd20,\n", "        grd19,\n", "not all asked"),
+    (TICK_CODE, "    grd55\n", "    grd54\n", "not all asked"),
     (TICK_CODE, "fn phase_limits(", "fn limits_of_phases(", "can't be read"),
     (STRUCT, "pub struct Variables {", "pub struct Flags {", "can't be read"),
 ]
