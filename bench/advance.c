@@ -2,11 +2,12 @@
 #include "reference.h"
 #include "rules.h"
 
-uint8_t reference_advance(munasirel_state *state, const uint16_t table[LIMITS], const uint8_t record[4])
+uint8_t reference_advance(munasirel_state *state, const uint16_t table[LIMITS], const uint8_t record[4], uint64_t *excess)
 {
     uint8_t code;
     uint16_t amount;
 
+    *excess = 0;
     if (broken_rule(table) != 0)
         return MUNASIREL_TABLE_NOT_ADMITTED;
     uint8_t number = read_record(record, &code, &amount);
@@ -14,5 +15,8 @@ uint8_t reference_advance(munasirel_state *state, const uint16_t table[LIMITS], 
         return number;
     if (!is_listed(state))
         return MUNASIREL_NOT_ALLOWED;
-    return step(state, table, code, amount);
+    number = step(state, table, code, amount);
+    if (number != 0)
+        *excess = excess_of(number, state, table, record);
+    return number;
 }

@@ -3,7 +3,8 @@
  *
  *     agree FILE..
  *
- * The status is 0 where nothing differs, and every number, rule and kind of block that can come up did. */
+ * The status is 0 where nothing differs, and every number, rule and kind of block that can come up did, and an excess that takes
+ * more than 32 bits. */
 #include <stdio.h>
 #include <string.h>
 
@@ -15,9 +16,9 @@ enum { MADE_FILES = 20000, MADE_RECORDS = 200000, MADE_BLOCKS = 40000, LONGEST_B
 static uint8_t file[MUNASIREL_LONGEST_FILE + 1];
 static size_t file_length;
 
-/* How often each number, rule and kind of block came up. */
+/* How often each number, rule and kind of block and an excess above 32 bits came up. */
 enum { ACCEPTED, REFUSED_FIRST, REFUSED_LATER, BAD_TABLE, EMPTY, KINDS }; /* a block without a whole record is empty */
-static unsigned numbers_of_files[14], numbers_of_records[14], numbers_of_blocks[14], rules[16], kinds[KINDS];
+static unsigned numbers_of_files[14], numbers_of_records[14], numbers_of_blocks[14], rules[16], kinds[KINDS], above_32_bits;
 
 /* ---- the comparison */
 static munasirel_limits limits_in(const uint16_t table[LIMITS])
@@ -36,16 +37,6 @@ static int same_line(size_t room)
     return library_number == c_number && library_length == c_length && memcmp(library, c, sizeof c) == 0;
 }
 
-static int same_verdict(void)
-{
-    struct verdict verdict = reference_judge(file, file_length);
-    uint8_t number = munasirel_judge(file, file_length);
-    uint8_t rule = number == MUNASIREL_TABLE_NOT_ADMITTED ? munasirel_admit(munasirel_table(file, file_length)) : 0;
-    numbers_of_files[number]++;
-    rules[rule]++;
-    return number == verdict.number && rule == verdict.rule && same_line(MUNASIREL_LINE_ROOM) && same_line(20);
-}
-
 static int same_state(const munasirel_state *a, const munasirel_state *b)
 {
     return a->clock == b->clock && a->gear_box == b->gear_box && a->phase == b->phase && a->phase_time == b->phase_time &&
@@ -53,12 +44,25 @@ static int same_state(const munasirel_state *a, const munasirel_state *b)
            a->failed_phase == b->failed_phase;
 }
 
+static int same_verdict(void)
+{
+    munasirel_judged library = munasirel_verdict(file, file_length), c = reference_verdict(file, file_length);
+    uint8_t rule = c.number == MUNASIREL_TABLE_NOT_ADMITTED ? munasirel_admit(munasirel_table(file, file_length)) : 0;
+    numbers_of_files[library.number]++;
+    rules[library.rule]++;
+    return library.number == c.number && library.rule == c.rule && library.accepted == c.accepted && library.excess == c.excess &&
+           same_state(&library.state, &c.state) && munasirel_judge(file, file_length) == c.number && rule == c.rule &&
+           same_line(MUNASIREL_LINE_ROOM) && same_line(20);
+}
+
 static int same_advance(const munasirel_state *state, const uint16_t table[LIMITS], const uint8_t record[4])
 {
     munasirel_state library = *state, c = *state;
-    uint8_t number = munasirel_advance(&library, limits_in(table), record[0], record[1], record[2], record[3]);
+    uint64_t excess = UINT64_MAX, c_excess = UINT64_MAX - 1;
+    uint8_t number = munasirel_advance(&library, limits_in(table), record[0], record[1], record[2], record[3], &excess);
     numbers_of_records[number]++;
-    return number == reference_advance(&c, table, record) && same_state(&library, &c);
+    above_32_bits += excess > UINT32_MAX;
+    return number == reference_advance(&c, table, record, &c_excess) && excess == c_excess && same_state(&library, &c);
 }
 
 static int kind_of(uint8_t number, size_t length, size_t accepted)
@@ -75,12 +79,13 @@ static int same_block(munasirel_state *state, const uint16_t table[LIMITS], cons
 {
     munasirel_state c = *state;
     size_t c_accepted = SIZE_MAX - 1;
+    uint64_t excess = UINT64_MAX, c_excess = UINT64_MAX - 1;
     *accepted = SIZE_MAX;
-    uint8_t number = munasirel_advance_block(state, limits_in(table), records, length, accepted);
+    uint8_t number = munasirel_advance_block(state, limits_in(table), records, length, accepted, &excess);
     numbers_of_blocks[number]++;
     kinds[kind_of(number, length, *accepted)]++;
-    return number == reference_advance_block(&c, table, records, length, &c_accepted) && *accepted == c_accepted &&
-           same_state(state, &c);
+    return number == reference_advance_block(&c, table, records, length, &c_accepted, &c_excess) && *accepted == c_accepted &&
+           excess == c_excess && same_state(state, &c);
 }
 
 /* ---- chance, the same in every run */
@@ -154,13 +159,14 @@ static void make_file(void)
 {
     uint16_t table[LIMITS], entries = once_in(2) ? LIMITS : 0, count = 0;
     munasirel_state state = {0};
+    uint64_t excess;
     memcpy(table, default_table, sizeof default_table);
     if (entries != 0)
         make_table(table);
     for (uint32_t tries = below(1000); tries > 0; tries--) {
         uint8_t *record = file + 12 + 2 * entries + 4 * count;
         make_record(&state, table, record);
-        if (reference_advance(&state, table, record) == 0 || once_in(400))
+        if (reference_advance(&state, table, record, &excess) == 0 || once_in(400))
             count++;
     }
     const uint16_t header[] = {12, entries, 12 + 2 * entries, 0, count, 0};
@@ -187,10 +193,11 @@ static void damage_file(void)
     }
 }
 
-/* Any state: nearly listed, its times shortly before its clock, or not. */
+/* Any state: nearly listed, its times shortly before its clock, or not; before the clock's beginning they lie at its end. */
 static void make_state(munasirel_state *state)
 {
-    state->clock = once_in(4) ? UINT32_MAX - below(70000) : 1000 + below(1000);
+    const uint32_t clocks[] = {UINT32_MAX - below(70000), below(30), 1000 + below(1000), 1000 + below(1000)};
+    state->clock = clocks[below(4)];
     state->gear_box = once_in(20) ? below(256) : below(2);
     state->phase = once_in(20) ? below(256) : below(24);
     state->phase_time = state->clock - (once_in(20) ? below(UINT32_MAX) : below(300));
@@ -205,6 +212,7 @@ static void make_state(munasirel_state *state)
 static size_t make_block(munasirel_state state, const uint16_t table[LIMITS], uint8_t block[LONGEST_BLOCK])
 {
     size_t length = below(LONGEST_BLOCK + 1);
+    uint64_t excess;
     int most = 50;
     for (size_t at = 0; at < length; at++)
         block[at] = below(256);
@@ -212,7 +220,7 @@ static size_t make_block(munasirel_state state, const uint16_t table[LIMITS], ui
         int tries = once_in(100) ? 1 : most;
         do
             make_record(&state, table, block + at);
-        while (reference_advance(&state, table, block + at) != 0 && --tries > 0);
+        while (reference_advance(&state, table, block + at, &excess) != 0 && --tries > 0);
         if (tries == 0)
             most = 1;
     }
@@ -313,10 +321,10 @@ static unsigned compare_blocks(void)
     return differ;
 }
 
-/* The numbers, rules and kinds that never came up; a file never gives 10, and would have to be longer to give 13. */
+/* How much of that never came up; a file never gives 10, and would have to be longer to give 13. */
 static unsigned never_came_up(void)
 {
-    unsigned never = 0;
+    unsigned never = above_32_bits == 0;
     for (unsigned i = 0; i < 14; i++) {
         never += i != 10 && i != 13 && numbers_of_files[i] == 0;
         never += (i == 0 || i >= 4) && numbers_of_records[i] == 0;

@@ -26,7 +26,7 @@ static uint8_t library_judge(void)
 
 static uint8_t c_judge(void)
 {
-    return reference_judge(file, file_length).number;
+    return reference_verdict(file, file_length).number;
 }
 
 static uint8_t library_line(void)
@@ -48,8 +48,9 @@ static uint8_t library_advance(void)
     munasirel_limits table = munasirel_table(file, file_length);
     munasirel_state state = {0};
     uint8_t number = 0;
+    uint64_t excess;
     for (const uint8_t *record = records; number == 0 && record < file + file_length; record += 4)
-        number = munasirel_advance(&state, table, record[0], record[1], record[2], record[3]);
+        number = munasirel_advance(&state, table, record[0], record[1], record[2], record[3], &excess);
     return number;
 }
 
@@ -59,9 +60,10 @@ static uint8_t c_advance(void)
     uint16_t table[18];
     munasirel_state state = {0};
     uint8_t number = 0;
+    uint64_t excess;
     memcpy(table, &limits, sizeof table);
     for (const uint8_t *record = records; number == 0 && record < file + file_length; record += 4)
-        number = reference_advance(&state, table, record);
+        number = reference_advance(&state, table, record, &excess);
     return number;
 }
 
@@ -78,8 +80,9 @@ static uint8_t library_block(void)
     munasirel_state state = {0};
     uint8_t number = 0;
     size_t length, accepted;
+    uint64_t excess;
     for (const uint8_t *from = records; number == 0 && (length = block_length(from)) > 0; from += length)
-        number = munasirel_advance_block(&state, table, from, length, &accepted);
+        number = munasirel_advance_block(&state, table, from, length, &accepted, &excess);
     return number;
 }
 
@@ -90,9 +93,10 @@ static uint8_t c_block(void)
     munasirel_state state = {0};
     uint8_t number = 0;
     size_t length, accepted;
+    uint64_t excess;
     memcpy(table, &limits, sizeof table);
     for (const uint8_t *from = records; number == 0 && (length = block_length(from)) > 0; from += length)
-        number = reference_advance_block(&state, table, from, length, &accepted);
+        number = reference_advance_block(&state, table, from, length, &accepted, &excess);
     return number;
 }
 

@@ -293,6 +293,29 @@ static inline uint8_t read_record(const uint8_t record[4], uint8_t *code, uint16
     return MUNASIREL_ACCEPTED;
 }
 
+/* How far over a refused record is, by its number and on the state before it; with 9 and 10 the amount is 0. */
+static inline uint64_t excess_of(uint8_t number, const munasirel_state *state, const uint16_t table[LIMITS], const uint8_t record[4])
+{
+    uint8_t order = is_unfinished(state->phase) ? phases[state->phase].order : 0;
+    uint64_t clock = (uint64_t)state->clock + u16_at(record + 2);
+
+    switch (number) {
+    case MUNASIREL_TOO_EARLY:
+        return state->phase_time + (uint64_t)table[limits_of[order].de] - clock;
+    case MUNASIREL_TOO_LATE:
+        return clock - state->phase_time - table[limits_of[order].ex];
+    case MUNASIREL_PAST_PHASE_LIMIT:
+        return clock - state->phase_time - table[limits_of[order].phase_limit];
+    case MUNASIREL_PAST_STAGE_LIMIT:
+        return clock - state->stage_time -
+               table[state->stage == MUNASIREL_STAGE_WORKING ? limits_of[order].device_limit : CHANNEL_DL];
+    case MUNASIREL_PAST_CLOCK:
+        return clock - UINT32_MAX;
+    default:
+        return 0;
+    }
+}
+
 /* A record's four bytes on a listed state, under an admitted table. */
 static inline uint8_t judge_record(munasirel_state *state, const uint16_t table[LIMITS], const uint8_t record[4])
 {

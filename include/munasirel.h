@@ -39,6 +39,15 @@ enum {
     MUNASIREL_OVERLAP_DIFFERS = 16      /* a part differs from the bytes held */
 };
 
+/* How far over: the excess is the milliseconds by which a record is too early or past the limit. It is at least 1 with the numbers 9
+ * to 13, and 0 with every other, MUNASIREL_ACCEPTED among them:
+ *    9   phase time + DE - clock; DE and EX are those of the engine's order
+ *   10   clock - (phase time + EX)
+ *   11   new clock - (phase time + phase limit)
+ *   12   new clock - (stage time + channel or device limit), also where the tick passes the phase limit
+ *   13   clock + amount - 4,294,967,295
+ * Nothing wraps: with 9, on a state whose phase time lies far ahead of its clock, it can pass 32 bits. */
+
 /* The codes of the thirteen steps. A tick has an amount of 1 to 65,535, every other step the amount 0. A reset is allowed in phase 23
  * alone, enters phase 0 and keeps the box. */
 enum {
@@ -115,10 +124,24 @@ typedef struct munasirel_state {
     uint8_t failed_phase;  /* in phase 23 the phase that was left, else 0; a reset clears it */
 } munasirel_state;
 
+/* The whole verdict on a step file. The padding bytes may hold anything. */
+typedef struct munasirel_judged {
+    uint8_t number;        /* 0 where the file is accepted, or the number that refuses it, 1 to 13 */
+    uint8_t rule;          /* the number of the broken rule with 4, else 0 */
+    size_t accepted;       /* how many records were accepted, which is the index of the refused one; 0 with 1 to 4 */
+    uint64_t excess;       /* how far over the refused record is, 0 but with 9 to 13 */
+    munasirel_state state; /* after the records accepted; the start with 1 to 4 */
+} munasirel_judged;
+
 /* Judges a step file from the start state.
  *   file, file_length   the file's bytes, any number of them
  * Returns 0 where the file is accepted, or the number that refuses it, 1 to 13. */
 uint8_t munasirel_judge(const uint8_t *file, size_t file_length);
+
+/* Judges a step file from the start state, as munasirel_judge does.
+ *   file, file_length   the file's bytes, any number of them
+ * Returns the whole verdict. */
+munasirel_judged munasirel_verdict(const uint8_t *file, size_t file_length);
 
 /* Tests a limit table.
  * Returns 0 where the table is admitted, or the number of the first rule that it breaks, 1 to 15. */
@@ -131,7 +154,7 @@ uint8_t munasirel_admit(munasirel_limits table);
 munasirel_limits munasirel_table(const uint8_t *file, size_t file_length);
 
 /* Lays the line of a file's verdict into a buffer: the word accepted, refused or unread, then the records accepted, the number that
- * refuses the file or 0, clock, phase and box, and a line feed. No zero byte ends it.
+ * refuses the file or 0, clock, phase, box and excess, and a line feed. No zero byte ends it.
  *   file, file_length   the file's bytes
  *   out, out_length     where the line is laid, at the start; the bytes after it stay as they are
  *   line_length         is set to the line's length, or to 0 where it is refused
@@ -168,9 +191,11 @@ uint8_t munasirel_write(munasirel_limits table, uint8_t with_table, const uint8_
  *   state                     is advanced where it stands; where the record is refused every field is kept. Any state may be given
  *   table                     the limits to judge under
  *   code, middle, low, high   the record's four bytes in their order
+ *   excess                    is set to how far over the record is, to 0 but with 9 to 13
  * Returns 0, or the number that refuses the record: 4, 5, 6, 7, then 8, 9 or 10; for a tick 4, 5, 6, 7, 13, 12, 11, tested in this
  * order. */
-uint8_t munasirel_advance(munasirel_state *state, munasirel_limits table, uint8_t code, uint8_t middle, uint8_t low, uint8_t high);
+uint8_t munasirel_advance(munasirel_state *state, munasirel_limits table, uint8_t code, uint8_t middle, uint8_t low, uint8_t high,
+                          uint64_t *excess);
 
 /* Advances a running judge by the records of a block, one after the other, up to the first that is refused: as munasirel_advance on
  * each in turn would, but the table is tested once.
@@ -179,10 +204,11 @@ uint8_t munasirel_advance(munasirel_state *state, munasirel_limits table, uint8_
  *   records, records_length   the block's bytes, any number of them: four a record, as in a step file. One to three bytes left over
  *                             behind the last whole record are not looked at
  *   accepted                  is set to how many records were accepted, which is the index in the block of the refused one
+ *   excess                    is set to how far over the refused record is, to 0 but with 9 to 13
  * Returns 0, or the number of the refused record, tested in the order of munasirel_advance and of each record before the next: so 4
  * refuses the first. A block without a whole record is accepted under any table. */
 uint8_t munasirel_advance_block(munasirel_state *state, munasirel_limits table, const uint8_t *records, size_t records_length,
-                                size_t *accepted);
+                                size_t *accepted, uint64_t *excess);
 
 #ifdef __cplusplus
 }
@@ -208,6 +234,12 @@ MUNASIREL_HOLDS(offsetof(munasirel_state, stage) == 12);
 MUNASIREL_HOLDS(offsetof(munasirel_state, stage_time) == 16);
 MUNASIREL_HOLDS(offsetof(munasirel_state, request_time) == 20);
 MUNASIREL_HOLDS(offsetof(munasirel_state, failed_phase) == 24);
+MUNASIREL_HOLDS(sizeof(munasirel_judged) == 56);
+MUNASIREL_HOLDS(offsetof(munasirel_judged, number) == 0);
+MUNASIREL_HOLDS(offsetof(munasirel_judged, rule) == 1);
+MUNASIREL_HOLDS(offsetof(munasirel_judged, accepted) == 8);
+MUNASIREL_HOLDS(offsetof(munasirel_judged, excess) == 16);
+MUNASIREL_HOLDS(offsetof(munasirel_judged, state) == 24);
 #undef MUNASIREL_HOLDS
 
 #endif
