@@ -3,13 +3,12 @@
  *     gateway FILE FILE
  *
  * For each vehicle the parts are joined in a buffer of its own, the file is judged, and the line of its verdict is printed. Then a
- * running judge for each vehicle is advanced by a block of records at a time, the two in turns, and its end is held to the line.
+ * running judge for each vehicle is advanced by a block of records at a time, the two in turns, and its end is held to the verdict.
  * Where records come in singly, munasirel_advance takes the four bytes of one.
- * The status is 0 where both agree with their lines, 1 where one does not, 2 where it is not given two files that it can read, and
- * 3 where the output can not be written.
+ * The status is 0 where both agree with their verdicts, 1 where one does not, 2 where it is not given two files that it can read,
+ * and 3 where the output can not be written.
  */
 #include <stdio.h>
-#include <string.h>
 
 #include "munasirel.h"
 
@@ -18,10 +17,9 @@ struct vehicle {
     uint8_t buffer[MUNASIREL_LONGEST_FILE];
     size_t held;
     munasirel_limits table;
-    munasirel_state state; /* all zeros: the start */
-    size_t records;        /* in the file */
-    size_t accepted;       /* by the running judge */
-    uint8_t number;        /* the last number of the running judge */
+    size_t records;           /* in the file */
+    munasirel_judged verdict; /* on the file */
+    munasirel_judged running; /* the running judge's, so far; all zeros: the start */
 };
 
 /* The two vehicles, and the file that one of them is sending. */
@@ -75,19 +73,29 @@ static void receive(struct vehicle *v, size_t length)
     }
 }
 
-/* Judges the file held, prints its line and makes the running judge ready. */
+/* Prints a number, and with 9 to 13 how far over the record is. */
+static void print_number(const munasirel_judged *judged)
+{
+    printf("number %u", (unsigned)judged->number);
+    if (judged->excess > 0)
+        printf(", %llu ms %s", (unsigned long long)judged->excess, judged->number == MUNASIREL_TOO_EARLY ? "too early" : "over");
+}
+
+/* Judges the file held, prints its line and makes the running judge ready. A file that is unread has no record for it. */
 static void judge(struct vehicle *v)
 {
     uint8_t line[MUNASIREL_LINE_ROOM];
     size_t length;
+    v->verdict = munasirel_verdict(v->buffer, v->held);
     munasirel_line(v->buffer, v->held, line, sizeof line, &length);
-    v->number = munasirel_judge(v->buffer, v->held);
-    printf("  judged, number %u: %.*s", (unsigned)v->number, (int)length, (const char *)line);
-    v->records = 0;
-    if (v->number == 0 || v->number > MUNASIREL_TABLE_NOT_ADMITTED) {
+    printf("  judged, ");
+    print_number(&v->verdict);
+    printf(": %.*s", (int)length, (const char *)line);
+    if (v->verdict.number == 0 || v->verdict.number > MUNASIREL_TABLE_NOT_ADMITTED) {
         v->table = munasirel_table(v->buffer, v->held);
         v->records = u32_at(v->buffer + 8);
-        v->number = 0;
+    } else {
+        v->running = v->verdict;
     }
 }
 
@@ -96,30 +104,36 @@ static void judge(struct vehicle *v)
 static int advance(int i)
 {
     struct vehicle *v = &vehicles[i];
-    if (v->number != 0 || v->accepted == v->records)
+    munasirel_judged *r = &v->running;
+    if (r->number != 0 || r->accepted == v->records)
         return 0;
-    const uint8_t *block = v->buffer + u32_at(v->buffer + 4) + 4 * v->accepted;
-    size_t size = smaller(3, v->records - v->accepted), accepted;
-    v->number = munasirel_advance_block(&v->state, v->table, block, 4 * size, &accepted);
-    v->accepted += accepted;
-    printf("vehicle %d, a block of %zu: number %u, %zu accepted\n", i + 1, size, (unsigned)v->number, accepted);
+    const uint8_t *block = v->buffer + u32_at(v->buffer + 4) + 4 * r->accepted;
+    size_t size = smaller(3, v->records - r->accepted), accepted;
+    r->number = munasirel_advance_block(&r->state, v->table, block, 4 * size, &accepted, &r->excess);
+    r->accepted += accepted;
+    printf("vehicle %d, a block of %zu: ", i + 1, size);
+    print_number(r);
+    printf(", %zu accepted\n", accepted);
     return 1;
 }
 
-/* Prints where the running judge stands; returns whether the line says the same. */
+static int same_state(const munasirel_state *a, const munasirel_state *b)
+{
+    return a->clock == b->clock && a->gear_box == b->gear_box && a->phase == b->phase && a->phase_time == b->phase_time &&
+           a->stage == b->stage && a->stage_time == b->stage_time && a->request_time == b->request_time &&
+           a->failed_phase == b->failed_phase;
+}
+
+/* Prints where the running judge stands; returns whether the verdict says the same. */
 static int agrees(const struct vehicle *v)
 {
-    const char *word = v->number == 0 ? "accepted" : v->number <= MUNASIREL_TABLE_NOT_ADMITTED ? "unread" : "refused";
-    uint8_t line[MUNASIREL_LINE_ROOM];
-    char own[MUNASIREL_LINE_ROOM];
-    size_t length;
-    munasirel_line(v->buffer, v->held, line, sizeof line, &length);
-    snprintf(own, sizeof own, "%s %zu %u %u %u %u\n", word, v->accepted, (unsigned)v->number, (unsigned)v->state.clock,
-             (unsigned)v->state.phase, (unsigned)v->state.gear_box);
-    int same = length == strlen(own) && memcmp(line, own, length) == 0;
-    printf("%zu records accepted, number %u, clock %u, phase %u, box %u: %s\n", v->accepted, (unsigned)v->number,
-           (unsigned)v->state.clock, (unsigned)v->state.phase, (unsigned)v->state.gear_box,
-           same ? "as the line says" : "NOT as the line says");
+    const munasirel_judged *r = &v->running, *verdict = &v->verdict;
+    int same = r->number == verdict->number && r->accepted == verdict->accepted && r->excess == verdict->excess &&
+               same_state(&r->state, &verdict->state);
+    printf("%zu records accepted, ", r->accepted);
+    print_number(r);
+    printf(", clock %u, phase %u, box %u: %s\n", (unsigned)r->state.clock, (unsigned)r->state.phase, (unsigned)r->state.gear_box,
+           same ? "as the verdict says" : "NOT as the verdict says");
     return same;
 }
 
