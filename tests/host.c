@@ -79,6 +79,8 @@ static const munasirel_limits normal = {5,   100, 200, 150, 150, 300, 200, 150, 
                                         155, 255, 151, 251, 200, 350, 250, 200, 1500};
 static const char *const K1 = "1 t5 4 t100 5 t5 8 4 t300 5 8 11";
 static const char *const K11 = "1 t5 4 t100 5 t5 8 4 t300 5 8 11 3 4 5 8 4 6 10 11";
+/* From neutral, at once. */
+#define IN_GEAR "1 4 5 8 4 5 8 11"
 /* The set order is taken in phase 4, and the clutch will not close in phase 5. */
 #define WOULD_NOT_CLOSE "1 4 7 t151 9 4 5 8 4 5 8 4 6 10"
 
@@ -168,12 +170,23 @@ static munasirel_limits with(unsigned entry, unsigned limit)
     return table;
 }
 
+/* ---- states: clock, box, phase, phase time, stage, stage time, request time, failed phase */
+#define S(...) ((munasirel_state){__VA_ARGS__})
+
+static int same_state(const munasirel_state *a, const munasirel_state *b)
+{
+    return a->clock == b->clock && a->gear_box == b->gear_box && a->phase == b->phase && a->phase_time == b->phase_time &&
+           a->stage == b->stage && a->stage_time == b->stage_time && a->request_time == b->request_time &&
+           a->failed_phase == b->failed_phase;
+}
+
 /* ---- munasirel_judge, on the file made */
 static void judges(const char *name, unsigned want)
 {
     fresh();
     uint8_t *file = lend(made, made_length);
     check("judge", name, "number", munasirel_judge(file, made_length) == want);
+    check("judge", name, "number of the verdict", munasirel_verdict(file, made_length).number == want);
     check("judge", name, "bytes", guarded() && kept(file, 0));
 }
 
@@ -255,6 +268,92 @@ static void judging(void)
     ticks(MUNASIREL_MOST_RECORDS, 65535), make_list(NULL), judges("the longest file without a table", 0);
     ticks(MUNASIREL_MOST_RECORDS + 1, 1), make_list(NULL), judges("16,373 records", 2);
     memset(made, 0, sizeof made), made_length = 65537, judges("65,537 zero bytes", 2);
+}
+
+/* ---- munasirel_verdict, on the file made */
+static void gives(const char *name, unsigned number, unsigned rule, size_t accepted, uint64_t excess, munasirel_state state)
+{
+    munasirel_judged odd;
+    memset(&odd, 77, sizeof odd);
+    fresh();
+    uint8_t *file = lend(made, made_length);
+    munasirel_judged *got = lend(&odd, sizeof odd);
+    *got = munasirel_verdict(file, made_length);
+    check("verdict", name, "number", got->number == number);
+    check("verdict", name, "rule", got->rule == rule);
+    check("verdict", name, "count", got->accepted == accepted);
+    check("verdict", name, "excess", got->excess == excess);
+    check("verdict", name, "state", same_state(&got->state, &state));
+    check("verdict", name, "bytes", guarded() && kept(file, 0));
+}
+
+static void giving(void)
+{
+    const munasirel_state start = S(0), shifted = S(410, 1, 0, 410, 0, 410, 0, 0), requested = S(0, 0, 1, 0, 1, 0, 0, 0);
+    const munasirel_state ticked = S(7, 0, 0, 0, 0, 0, 0, 0);
+    make(K1), gives("K1", 0, 0, 12, 0, shifted);
+    make_with(normal, K1), gives("K1 with its table", 0, 0, 12, 0, shifted);
+    make(""), gives("K2", 0, 0, 0, 0, start);
+    make("1 t5"), gives("K3 with 5", 0, 0, 2, 0, S(5, 0, 1, 0, 1, 0, 0, 0));
+    make("1 t6"), gives("K3", 12, 0, 1, 1, requested);
+    make("1 t5 4 t101"), gives("K4", 12, 0, 3, 1, S(5, 0, 1, 0, 2, 5, 0, 0));
+    make("1 4 7 t150 9"), gives("K5", 9, 0, 4, 1, S(150, 0, 1, 0, 5, 0, 0, 0));
+    make("1 4 7 t151 9"), gives("K6", 0, 0, 5, 0, S(151, 0, 2, 151, 1, 151, 0, 0));
+    make("1 4 7 t155"), gives("K7 with 155", 0, 0, 4, 0, S(155, 0, 1, 0, 5, 0, 0, 0));
+    make("1 4 7 t156"), gives("K7", 11, 0, 3, 1, S(0, 0, 1, 0, 5, 0, 0, 0));
+    make("2"), gives("K8", 8, 0, 0, 0, start);
+    make("1 1"), gives("K9", 7, 0, 1, 0, requested);
+    make("1 4 6"), gives("K10", 7, 0, 2, 0, S(0, 0, 1, 0, 2, 0, 0, 0));
+    make(K11), gives("K11", 7, 0, 19, 0, S(410, 1, 23, 410, 0, 410, 410, 19));
+    make_with(with(17, 1404), K1), gives("K12", 4, 14, 0, 0, start);
+    make_with(with(17, 1405), K1), gives("K12 with 1,405", 0, 0, 12, 0, shifted);
+    make(WOULD_NOT_CLOSE " t9 13 3"), gives("a reset", 0, 0, 17, 0, S(160, 1, 17, 160, 1, 160, 160, 0));
+
+    /* What is unread gives the start. */
+    made_length = 0, gives("nothing", 1, 0, 0, 0, start);
+    make(K1), made_length = 11, gives("11 bytes", 1, 0, 0, 0, start);
+    make(K1), made[0] = 13, gives("a bad header", 2, 0, 0, 0, start);
+    ticks(MUNASIREL_MOST_RECORDS + 1, 1), make_list(NULL), gives("16,373 records", 2, 0, 0, 0, start);
+    make(K1), made_length--, gives("a wrong length", 3, 0, 0, 0, start);
+    make_with(with(0, 0), K1), made_length--, gives("3 before 4", 3, 0, 0, 0, start);
+    make_with(with(0, 0), "1 t6"), gives("a limit of 0", 4, 1, 0, 0, start);
+    make_with(with(9, 65535), "t7 1 t6"), gives("rule 12", 4, 12, 0, 0, start);
+
+    /* What is refused with 5 to 8 is over by nothing. */
+    make("t7 14 1 1"), gives("5", 5, 0, 1, 0, ticked);
+    make("t7 t0"), gives("6, a tick of 0", 6, 0, 1, 0, ticked);
+    make("t7 1 4 t300"), made[21] = 1, gives("6, a middle byte", 6, 0, 2, 0, S(7, 0, 1, 7, 1, 7, 7, 0));
+    make("t7 3"), gives("8, to neutral", 8, 0, 1, 0, ticked);
+    make("1 4 7 t150 8"), gives("7 where another step would be too early", 7, 0, 4, 0, S(150, 0, 1, 0, 5, 0, 0, 0));
+
+    /* 9: phase time + DE - clock. */
+    make("1 4 7 9"), gives("9 by all of the DE", 9, 0, 3, 151, S(0, 0, 1, 0, 5, 0, 0, 0));
+    make("t9 1 t1 4 7 t2 9"), gives("9, from the phase's beginning", 9, 0, 6, 148, S(12, 0, 1, 9, 5, 10, 9, 0));
+    make(IN_GEAR " 2 4 7 t1 9"), gives("9, zero torque, gear to gear", 9, 0, 12, 250, S(1, 1, 6, 0, 5, 0, 0, 0));
+    make(IN_GEAR " 3 4 7 t1 9"), gives("9, zero torque, to neutral", 9, 0, 12, 250, S(1, 1, 17, 0, 5, 0, 0, 0));
+    make(IN_GEAR " 2 4 5 t5 8 4 t9 5 8 4 7 t1 9"), gives("9, sync in phase 10", 9, 0, 20, 150, S(15, 0, 10, 14, 5, 14, 0, 0));
+    make_with(with(11, 155), "1 4 7 t150 9"), gives("9 under another table", 9, 0, 4, 5, S(150, 0, 1, 0, 5, 0, 0, 0));
+
+    /* 11: new clock - (phase time + phase limit). */
+    make("t9 1 t5 4 7 t200"), gives("11 by more", 11, 0, 5, 50, S(14, 0, 1, 9, 5, 14, 9, 0));
+    make(IN_GEAR " 2 4 7 t65535"), gives("11, zero torque", 11, 0, 11, 65280, S(0, 1, 6, 0, 5, 0, 0, 0));
+    make("1 4 7 t151 9 4 6 t250"), gives("11, open has failed", 11, 0, 7, 50, S(151, 0, 2, 151, 4, 151, 0, 0));
+    make("1 4 7 t155 t1"), gives("11, a second tick", 11, 0, 4, 1, S(155, 0, 1, 0, 5, 0, 0, 0));
+
+    /* 12: new clock - (stage time + channel or device limit), whether or not the tick passes the phase limit. */
+    make("t9 1 t3 t9"), gives("12, sent", 12, 0, 3, 7, S(12, 0, 1, 9, 1, 9, 9, 0));
+    make("1 4 t3 5 t8"), gives("12, good", 12, 0, 4, 3, S(3, 0, 1, 0, 3, 3, 0, 0));
+    make("1 4 5 8 4 t310"), gives("12, working at set", 12, 0, 5, 10, S(0, 0, 3, 0, 2, 0, 0, 0));
+    make("1 4 5 8 4 t400"), gives("12, past the phase limit too", 12, 0, 5, 100, S(0, 0, 3, 0, 2, 0, 0, 0));
+    make("1 t5 4 t65535"), gives("12, working, far past both", 12, 0, 3, 65435, S(5, 0, 1, 0, 2, 5, 0, 0));
+    make("1 t5 t65535"), gives("12 by the most of a file", 12, 0, 2, 65535, S(5, 0, 1, 0, 1, 0, 0, 0));
+    make_with(with(0, 6), "1 t8"), gives("12 under a looser table", 12, 0, 1, 2, requested);
+    make_with(with(0, 4), "1 t8"), gives("12 under a tighter table", 12, 0, 1, 4, requested);
+
+    ticks(MUNASIREL_MOST_RECORDS, 65535), make_list(&normal);
+    gives("the longest file", 0, 0, 16372, 0, S(1072939020, 0, 0, 0, 0, 0, 0, 0));
+    codes[steps - 2] = 1, amounts[steps - 2] = 0, make_list(&normal);
+    gives("its last tick over", 12, 0, 16371, 65530, S(1072807950, 0, 1, 1072807950, 1, 1072807950, 1072807950, 0));
 }
 
 /* ---- munasirel_admit */
@@ -345,21 +444,24 @@ static void lines(const char *name, const char *want)
 
 static void lining(void)
 {
-    make(K1), lines("K1", "accepted 12 0 410 0 1\n");
-    make(""), lines("K2", "accepted 0 0 0 0 0\n");
-    make("1 4 7 t150 9"), lines("K5", "refused 4 9 150 1 0\n");
-    make("1 4 7 t151 9"), lines("K6", "accepted 5 0 151 2 0\n");
-    make(K11), lines("K11", "refused 19 7 410 23 1\n");
-    made_length = 0, lines("nothing", "unread 0 1 0 0 0\n");
-    make(K1), made[0] = 13, lines("a bad header", "unread 0 2 0 0 0\n");
-    make(K1), made_length--, lines("a wrong length", "unread 0 3 0 0 0\n");
-    make_with(with(17, 1404), K1), lines("K12", "unread 0 4 0 0 0\n");
-    make("t7 14"), lines("code 14", "refused 1 5 7 0 0\n");
-    make(WOULD_NOT_CLOSE), lines("a clutch that would not close", "accepted 14 0 151 23 1\n");
-    make(WOULD_NOT_CLOSE " t9 13"), lines("and a reset", "accepted 16 0 160 0 1\n");
-    make("13"), lines("a reset at rest", "refused 0 7 0 0 0\n");
-    make("t0"), lines("a tick of 0", "refused 0 6 0 0 0\n");
-    ticks(MUNASIREL_MOST_RECORDS, 65535), make_list(NULL), lines("the longest file", "accepted 16372 0 1072939020 0 0\n");
+    make(K1), lines("K1", "accepted 12 0 410 0 1 0\n");
+    make(""), lines("K2", "accepted 0 0 0 0 0 0\n");
+    make("1 t5 4 t101"), lines("K4", "refused 3 12 5 1 0 1\n");
+    make("1 4 7 t150 9"), lines("K5", "refused 4 9 150 1 0 1\n");
+    make("1 4 7 t151 9"), lines("K6", "accepted 5 0 151 2 0 0\n");
+    make("1 4 7 t156"), lines("K7", "refused 3 11 0 1 0 1\n");
+    make("1 t5 t65535"), lines("12 by the most of a file", "refused 2 12 5 1 0 65535\n");
+    make(K11), lines("K11", "refused 19 7 410 23 1 0\n");
+    made_length = 0, lines("nothing", "unread 0 1 0 0 0 0\n");
+    make(K1), made[0] = 13, lines("a bad header", "unread 0 2 0 0 0 0\n");
+    make(K1), made_length--, lines("a wrong length", "unread 0 3 0 0 0 0\n");
+    make_with(with(17, 1404), K1), lines("K12", "unread 0 4 0 0 0 0\n");
+    make("t7 14"), lines("code 14", "refused 1 5 7 0 0 0\n");
+    make(WOULD_NOT_CLOSE), lines("a clutch that would not close", "accepted 14 0 151 23 1 0\n");
+    make(WOULD_NOT_CLOSE " t9 13"), lines("and a reset", "accepted 16 0 160 0 1 0\n");
+    make("13"), lines("a reset at rest", "refused 0 7 0 0 0 0\n");
+    make("t0"), lines("a tick of 0", "refused 0 6 0 0 0 0\n");
+    ticks(MUNASIREL_MOST_RECORDS, 65535), make_list(NULL), lines("the longest file", "accepted 16372 0 1072939020 0 0 0\n");
 }
 
 /* ---- munasirel_join: the buffer has 'abcdefgh' and then '.', of which some are held */
@@ -517,17 +619,7 @@ static void writing(void)
     codes[0] = 14, writes_all("2 before 5", &normal, 0, -9, many);
 }
 
-/* ---- munasirel_advance and munasirel_advance_block. A state is written clock, box, phase, phase time, stage, stage time, request
- * time, failed phase. */
-#define S(...) ((munasirel_state){__VA_ARGS__})
-
-static int same_state(const munasirel_state *a, const munasirel_state *b)
-{
-    return a->clock == b->clock && a->gear_box == b->gear_box && a->phase == b->phase && a->phase_time == b->phase_time &&
-           a->stage == b->stage && a->stage_time == b->stage_time && a->request_time == b->request_time &&
-           a->failed_phase == b->failed_phase;
-}
-
+/* ---- munasirel_advance and munasirel_advance_block */
 /* A block of so many records of the list, from a place on; it is made where a file would be. */
 static void cut(size_t from, size_t count)
 {
@@ -542,55 +634,74 @@ static void make_block(const char *text)
 }
 
 /* Advances by the block made. */
-static void blocks(const char *name, munasirel_limits table, munasirel_state from, unsigned want, size_t want_accepted,
-                   munasirel_state to)
+static void blocks_over(const char *name, munasirel_limits table, munasirel_state from, unsigned want, size_t want_accepted,
+                        uint64_t want_excess, munasirel_state to)
 {
     size_t odd = SIZE_MAX - 77;
+    uint64_t odd_excess = UINT64_MAX - 77;
     fresh();
     munasirel_state *state = lend(&from, sizeof from);
     uint8_t *records = lend(made, made_length);
     size_t *accepted = lend(&odd, sizeof odd);
-    check("block", name, "number", munasirel_advance_block(state, table, records, made_length, accepted) == want);
+    uint64_t *excess = lend(&odd_excess, sizeof odd_excess);
+    check("block", name, "number", munasirel_advance_block(state, table, records, made_length, accepted, excess) == want);
     check("block", name, "count", *accepted == want_accepted);
+    check("block", name, "excess", *excess == want_excess);
     check("block", name, "state", same_state(state, &to));
     check("block", name, "bytes", guarded() && kept(records, 0));
 }
 
+static void blocks(const char *name, munasirel_limits table, munasirel_state from, unsigned want, size_t want_accepted,
+                   munasirel_state to)
+{
+    blocks_over(name, table, from, want, want_accepted, 0, to);
+}
+
 /* A single record, by itself, as a block, and in a block before a record of code 0 and one byte. */
 static void advances(const char *name, munasirel_limits table, munasirel_state from, unsigned code, unsigned middle,
-                     unsigned amount, unsigned want, munasirel_state to)
+                     unsigned amount, unsigned want, uint64_t want_excess, munasirel_state to)
 {
+    uint64_t odd = UINT64_MAX - 77;
     fresh();
     munasirel_state *state = lend(&from, sizeof from);
+    uint64_t *excess = lend(&odd, sizeof odd);
     uint8_t number =
-        munasirel_advance(state, table, (uint8_t)code, (uint8_t)middle, (uint8_t)(amount % 256), (uint8_t)(amount / 256));
+        munasirel_advance(state, table, (uint8_t)code, (uint8_t)middle, (uint8_t)(amount % 256), (uint8_t)(amount / 256), excess);
     check("advance", name, "number", number == want);
+    check("advance", name, "excess", *excess == want_excess);
     check("advance", name, "state", same_state(state, &to));
     check("advance", name, "bytes", guarded());
     made_length = 0, put(code, 1), put(middle, 1), put(amount, 2);
-    blocks(name, table, from, want, want == 0, to);
+    blocks_over(name, table, from, want, want == 0, want_excess, to);
     put(0, 5);
-    blocks(name, table, from, want == 0 ? 5 : want, want == 0, to);
+    blocks_over(name, table, from, want == 0 ? 5 : want, want == 0, want_excess, to);
 }
 
 static void takes(const char *name, munasirel_state from, unsigned code, unsigned amount, munasirel_state to)
 {
-    advances(name, normal, from, code, 0, amount, 0, to);
+    advances(name, normal, from, code, 0, amount, 0, 0, to);
 }
 
 static void refuses(const char *name, munasirel_state from, unsigned code, unsigned amount, unsigned want)
 {
-    advances(name, normal, from, code, 0, amount, want, from);
+    advances(name, normal, from, code, 0, amount, want, 0, from);
+}
+
+/* Refused with 9 to 13. */
+static void refuses_over(const char *name, munasirel_state from, unsigned code, unsigned amount, unsigned want, uint64_t excess)
+{
+    advances(name, normal, from, code, 0, amount, want, excess, from);
 }
 
 /* Where single calls from a state come to over the first so many records of the list, up to the first that is refused. */
-struct ended { unsigned number; size_t accepted; munasirel_state state; };
+struct ended { unsigned number; size_t accepted; uint64_t excess; munasirel_state state; };
 
 static struct ended one_by_one(munasirel_limits table, munasirel_state from, size_t count)
 {
-    struct ended end = {0, 0, from};
+    struct ended end = {0, 0, 0, from};
     for (size_t i = 0; end.number == 0 && i < count; i++) {
-        end.number = munasirel_advance(&end.state, table, codes[i], 0, (uint8_t)(amounts[i] % 256), (uint8_t)(amounts[i] / 256));
+        end.number = munasirel_advance(&end.state, table, codes[i], 0, (uint8_t)(amounts[i] % 256), (uint8_t)(amounts[i] / 256),
+                                       &end.excess);
         end.accepted += end.number == 0;
     }
     return end;
@@ -600,14 +711,14 @@ static struct ended one_by_one(munasirel_limits table, munasirel_state from, siz
 static struct ended cuts(const char *name, munasirel_limits table, munasirel_state from)
 {
     static const size_t sizes[] = {1, 2, 3, 5, 7};
-    struct ended end = {0, 0, from};
+    struct ended end = {0, 0, 0, from};
     for (size_t i = 0; i < sizeof sizes / sizeof *sizes; i++) {
-        end = (struct ended){0, 0, from};
+        end = (struct ended){0, 0, 0, from};
         for (size_t at = 0; end.number == 0 && at < steps; at += sizes[i]) {
             size_t count = at + sizes[i] < steps ? sizes[i] : steps - at;
             struct ended single = one_by_one(table, from, at + count);
             cut(at, count);
-            blocks(name, table, end.state, single.number, single.accepted - at, single.state);
+            blocks_over(name, table, end.state, single.number, single.accepted - at, single.excess, single.state);
             end = single;
         }
     }
@@ -618,15 +729,18 @@ static struct ended cuts(const char *name, munasirel_limits table, munasirel_sta
 static void walks(const char *name, munasirel_state from, const char *text, const uint8_t *phases, const char *boxes,
                   munasirel_state to)
 {
+    uint64_t odd = 77;
     fresh();
     munasirel_state *state = lend(&from, sizeof from);
+    uint64_t *excess = lend(&odd, sizeof odd);
     int good = 1;
     list(text);
     for (size_t i = 0; i < steps; i++) {
-        good &= munasirel_advance(state, normal, codes[i], 0, (uint8_t)(amounts[i] % 256), (uint8_t)(amounts[i] / 256)) == 0;
+        uint8_t low = (uint8_t)(amounts[i] % 256), high = (uint8_t)(amounts[i] / 256);
+        good &= munasirel_advance(state, normal, codes[i], 0, low, high, excess) == 0 && *excess == 0;
         good &= state->phase == phases[i] && state->gear_box == boxes[i] - '0';
     }
-    check("advance", name, "numbers, phases or boxes", good && strlen(boxes) == steps);
+    check("advance", name, "numbers, excesses, phases or boxes", good && strlen(boxes) == steps);
     check("advance", name, "end", same_state(state, &to));
     check("advance", name, "bytes", guarded());
     cuts(name, normal, from);
@@ -698,20 +812,20 @@ static void advancing_steps(void)
     const munasirel_state rest = S(0), odd = S(1, 2, 24, 3, 6, 4, 5, 255), late = S(4294967295, 0, 1, 0, 2, 0, 0, 0);
     const munasirel_state broken = S(9, 1, 23, 3, 0, 4, 5, 7);
     const munasirel_limits bad = with(17, 1404);
-    advances("4", bad, rest, 1, 0, 0, 4, rest);
-    advances("4 before 5 and 6", bad, rest, 14, 1, 0, 4, rest);
-    advances("4 before 7", with(3, 0), odd, 1, 0, 0, 4, odd);
+    advances("4", bad, rest, 1, 0, 0, 4, 0, rest);
+    advances("4 before 5 and 6", bad, rest, 14, 1, 0, 4, 0, rest);
+    advances("4 before 7", with(3, 0), odd, 1, 0, 0, 4, 0, odd);
     refuses("5, code 0", rest, 0, 0, 5);
     refuses("5, code 14", rest, 14, 0, 5);
     refuses("5, code 255, before 6 and 7", odd, 255, 9, 5);
-    advances("5 before 6 for a middle byte", normal, rest, 14, 1, 0, 5, rest);
-    advances("6, a middle byte", normal, rest, 1, 1, 0, 6, rest);
-    advances("6, a middle byte of a tick", normal, rest, 12, 128, 5, 6, rest);
+    advances("5 before 6 for a middle byte", normal, rest, 14, 1, 0, 5, 0, rest);
+    advances("6, a middle byte", normal, rest, 1, 1, 0, 6, 0, rest);
+    advances("6, a middle byte of a tick", normal, rest, 12, 128, 5, 6, 0, rest);
     for (unsigned code = 1; code < 14; code += code == 11 ? 2 : 1) {
         refuses("6, a low amount", code == 13 ? broken : rest, code, 1, 6);
         refuses("6, a high amount", code == 13 ? broken : rest, code, 256, 6);
     }
-    advances("6, a middle byte of a reset", normal, broken, 13, 1, 0, 6, broken);
+    advances("6, a middle byte of a reset", normal, broken, 13, 1, 0, 6, 0, broken);
     refuses("6, a tick of 0, before 7", odd, 12, 0, 6);
     refuses("7, phase 24", S(0, 0, 24, 0, 0, 0, 0, 0), 12, 1, 7);
     refuses("7, phase 255", S(0, 0, 255, 0, 0, 0, 0, 0), 1, 0, 7);
@@ -739,14 +853,20 @@ static void advancing_steps(void)
     refuses("8, to neutral in neutral", rest, 3, 0, 8);
 
     takes("ask at 151", S(151, 0, 1, 0, 5, 0, 0, 0), 9, 0, S(151, 0, 2, 151, 1, 151, 0, 0));
-    refuses("9, ask at 150", S(150, 0, 1, 0, 5, 0, 0, 0), 9, 0, 9);
+    refuses_over("9, ask at 150", S(150, 0, 1, 0, 5, 0, 0, 0), 9, 0, 9, 1);
     takes("ask for zero torque at 251", S(251, 1, 17, 0, 5, 0, 0, 0), 9, 0, S(251, 1, 18, 251, 1, 251, 0, 0));
-    refuses("9, ask for zero torque at 250", S(250, 1, 6, 0, 5, 0, 0, 0), 9, 0, 9);
-    refuses("9, a sum above 32 bits", S(200, 0, 1, 4294967295, 5, 0, 0, 0), 9, 0, 9);
+    refuses_over("9, ask for zero torque at 250", S(250, 1, 6, 0, 5, 0, 0, 0), 9, 0, 9, 1);
+    refuses_over("9, a sum above 32 bits", S(200, 0, 1, 4294967295, 5, 0, 0, 0), 9, 0, 9, 4294967246);
+    refuses_over("9, an excess above 32 bits", S(0, 0, 1, 4294967295, 5, 0, 0, 0), 9, 0, 9, 4294967446);
+    refuses_over("9, the same of zero torque", S(250, 1, 17, 4294967295, 5, 9, 0, 0), 9, 0, 9, 4294967296);
+    advances("9, another DE", with(12, 255), S(9, 1, 6, 0, 5, 4, 0, 0), 9, 0, 0, 9, 246, S(9, 1, 6, 0, 5, 4, 0, 0));
     takes("K13 at 150", S(150, 0, 1, 0, 3, 0, 0, 0), 8, 0, S(150, 0, 3, 150, 1, 150, 0, 0));
-    refuses("10, K13 at 151", S(151, 0, 1, 0, 3, 0, 0, 0), 8, 0, 10);
+    refuses_over("10, K13 at 151", S(151, 0, 1, 0, 3, 0, 0, 0), 8, 0, 10, 1);
     takes("take zero torque at 250", S(250, 1, 6, 0, 3, 0, 0, 0), 8, 0, S(250, 1, 8, 250, 1, 250, 0, 0));
-    refuses("10, take zero torque at 251", S(251, 1, 17, 0, 3, 0, 0, 0), 8, 0, 10);
+    refuses_over("10, take zero torque at 251", S(251, 1, 17, 0, 3, 0, 0, 0), 8, 0, 10, 1);
+    refuses_over("10, by the phase's time", S(900, 0, 10, 300, 3, 899, 0, 0), 8, 0, 10, 450);
+    refuses_over("10, at the clock's end", S(4294967295, 1, 6, 0, 3, 0, 0, 0), 8, 0, 10, 4294967045);
+    advances("10, another EX", with(7, 140), S(150, 0, 1, 0, 3, 0, 0, 0), 8, 0, 0, 10, 10, S(150, 0, 1, 0, 3, 0, 0, 0));
     takes("take after any time", S(9999, 0, 4, 0, 3, 0, 0, 0), 8, 0, S(9999, 1, 5, 9999, 1, 9999, 0, 0));
     takes("take, a sum above 32 bits", S(4294967295, 0, 1, 4294967295, 3, 0, 0, 0), 8, 0,
           S(4294967295, 0, 3, 4294967295, 1, 4294967295, 0, 0));
@@ -778,37 +898,47 @@ static void advancing_steps(void)
         munasirel_state waited = waiting, worked = working;
         waited.clock = limit[i].longest, worked.clock = limit[i].device;
         takes("up to the phase limit", waiting, 12, limit[i].longest, waited);
-        refuses("11", waiting, 12, limit[i].longest + 1, 11);
+        refuses_over("11", waiting, 12, limit[i].longest + 1, 11, 1);
+        refuses_over("11, far past", waited, 12, 65535, 11, 65535);
         takes("up to the device limit", working, 12, limit[i].device, worked);
-        refuses("12, working", working, 12, limit[i].device + 1, 12);
+        refuses_over("12, working", working, 12, limit[i].device + 1, 12, 1);
+        refuses_over("12, past the phase limit too", working, 12, limit[i].longest + 1, 12, limit[i].longest + 1 - limit[i].device);
+        refuses_over("12, far past both", worked, 12, 65535, 12, 65535);
     }
     takes("stage none, the phase limit alone", S(0, 0, 1, 0, 0, 0, 0, 0), 12, 155, S(155, 0, 1, 0, 0, 0, 0, 0));
-    refuses("11, stage none", S(0, 0, 1, 0, 0, 0, 0, 0), 12, 156, 11);
-    refuses("11, stage failed", S(0, 0, 2, 0, 4, 0, 0, 0), 12, 201, 11);
-    refuses("11, a late stage time", S(100, 0, 1, 0, 2, 100, 0, 0), 12, 56, 11);
+    refuses_over("11, stage none", S(0, 0, 1, 0, 0, 0, 0, 0), 12, 156, 11, 1);
+    refuses_over("11, stage failed", S(0, 0, 2, 0, 4, 0, 0, 0), 12, 201, 11, 1);
+    refuses_over("11, a late stage time", S(100, 0, 1, 0, 2, 100, 0, 0), 12, 56, 11, 1);
+    refuses_over("11, by the phase's time", S(100, 0, 1, 40, 5, 90, 0, 0), 12, 100, 11, 5);
+    refuses_over("11, at the clock's end", S(4294967290, 0, 1, 0, 5, 0, 0, 0), 12, 5, 11, 4294967140);
     takes("sent, up to the channel limit", S(7, 0, 2, 7, 1, 7, 0, 0), 12, 5, S(12, 0, 2, 7, 1, 7, 0, 0));
-    refuses("12, sent", S(7, 0, 2, 7, 1, 7, 0, 0), 12, 6, 12);
+    refuses_over("12, sent", S(7, 0, 2, 7, 1, 7, 0, 0), 12, 6, 12, 1);
     takes("good, up to the channel limit", S(7, 0, 2, 7, 3, 7, 0, 0), 12, 5, S(12, 0, 2, 7, 3, 7, 0, 0));
-    refuses("12, good", S(7, 0, 2, 7, 3, 7, 0, 0), 12, 6, 12);
-    refuses("12 before 11", S(0, 0, 2, 0, 2, 0, 0, 0), 12, 65535, 12);
+    refuses_over("12, good", S(7, 0, 2, 7, 3, 7, 0, 0), 12, 6, 12, 1);
+    refuses_over("12 before 11", S(0, 0, 2, 0, 2, 0, 0, 0), 12, 65535, 12, 65385);
+    refuses_over("12, the phase limit passed by more", S(100, 0, 1, 0, 2, 100, 0, 0), 12, 65535, 12, 65435);
+    refuses_over("12, at the clock's end", S(4294967290, 0, 1, 0, 3, 0, 0, 0), 12, 5, 12, 4294967290);
     takes("a tick, sums above 32 bits", S(0, 0, 1, 4294967295, 2, 4294967295, 0, 0), 12, 65535,
           S(65535, 0, 1, 4294967295, 2, 4294967295, 0, 0));
     takes("the clock's last tick", S(4294967294, 0, 0, 1, 2, 3, 4, 255), 12, 1, S(4294967295, 0, 0, 1, 2, 3, 4, 255));
-    refuses("13", S(4294967295, 0, 0, 1, 2, 3, 4, 255), 12, 1, 13);
-    refuses("13 by 1", S(4294901761, 1, 23, 0, 0, 0, 0, 0), 12, 65535, 13);
+    refuses_over("13", S(4294967295, 0, 0, 1, 2, 3, 4, 255), 12, 1, 13, 1);
+    refuses_over("13 by 7", S(4294967295, 0, 0, 1, 2, 3, 4, 255), 12, 7, 13, 7);
+    refuses_over("13 by the largest tick", S(4294967295, 1, 22, 0, 0, 0, 0, 0), 12, 65535, 13, 65535);
+    refuses_over("13 by 1", S(4294901761, 1, 23, 0, 0, 0, 0, 0), 12, 65535, 13, 1);
     takes("up to the clock's end", S(4294901760, 1, 23, 0, 0, 0, 0, 0), 12, 65535, S(4294967295, 1, 23, 0, 0, 0, 0, 0));
-    refuses("13 before 12 and 11", late, 12, 1, 13);
+    refuses_over("13 before 12 and 11", late, 12, 1, 13, 1);
 }
 
-/* The steps in blocks from the start state; their end is the line of their file. */
+/* The steps in blocks from the start state; their end is the verdict on their file, and its line. */
 static void cuts_file(munasirel_limits table, const char *text)
 {
     char line[MUNASIREL_LINE_ROOM];
     list(text);
     struct ended end = cuts(text, table, S(0));
-    snprintf(line, sizeof line, "%s %zu %u %u %u %u\n", end.number == 0 ? "accepted" : "refused", end.accepted, end.number,
-             (unsigned)end.state.clock, (unsigned)end.state.phase, (unsigned)end.state.gear_box);
+    snprintf(line, sizeof line, "%s %zu %u %u %u %u %llu\n", end.number == 0 ? "accepted" : "refused", end.accepted, end.number,
+             (unsigned)end.state.clock, (unsigned)end.state.phase, (unsigned)end.state.gear_box, (unsigned long long)end.excess);
     make_list(&table);
+    gives(text, end.number, 0, end.accepted, end.excess, end.state);
     lines_in(text, line, sizeof line);
 }
 
@@ -830,20 +960,26 @@ static void advancing_blocks(void)
     make_block(K1), blocks("K1", normal, rest, 0, 12, shifted);
     make_block(K11), blocks("K11", normal, rest, 7, 19, k11);
     cut(12, 8), blocks("K11 from its thirteenth record on", normal, shifted, 7, 7, k11);
-    make_block("1 4 7 t150 9"), blocks("K5", normal, rest, 9, 4, S(150, 0, 1, 0, 5, 0, 0, 0));
+    make_block("1 4 7 t150 9"), blocks_over("K5", normal, rest, 9, 4, 1, S(150, 0, 1, 0, 5, 0, 0, 0));
     make_block("2 1 4"), blocks("8 at the first", normal, rest, 8, 0, rest);
     make_block("t7 14 1"), blocks("5 in the middle", normal, rest, 5, 1, ticked);
     make_block("t7 t0 1"), blocks("6 in the middle", normal, rest, 6, 1, ticked);
     make_block("t7 1 4"), made[9] = 1, blocks("6, a middle byte of the last", normal, rest, 6, 2, requested);
     make_block("t7 1 1 14"), blocks("7 before a later 5", normal, rest, 7, 2, requested);
     make_block("1 t3 t2"), blocks("the channel limit by two ticks", normal, rest, 0, 3, S(5, 0, 1, 0, 1, 0, 0, 0));
-    make_block("1 t3 t2 t1 4"), blocks("12 by three ticks", normal, rest, 12, 3, S(5, 0, 1, 0, 1, 0, 0, 0));
+    make_block("1 t3 t2 t1 4"), blocks_over("12 by three ticks", normal, rest, 12, 3, 1, S(5, 0, 1, 0, 1, 0, 0, 0));
+    make_block("1 t3 t200 4"), blocks_over("12, past the phase limit too", normal, rest, 12, 2, 198, S(3, 0, 1, 0, 1, 0, 0, 0));
     make_block("1 4 7 t151 t4"), blocks("the phase limit by two ticks", normal, rest, 0, 5, S(155, 0, 1, 0, 5, 0, 0, 0));
-    make_block("1 4 7 t151 t4 t1"), blocks("11 by three ticks", normal, rest, 11, 5, S(155, 0, 1, 0, 5, 0, 0, 0));
+    make_block("1 4 7 t151 t4 t1"), blocks_over("11 by three ticks", normal, rest, 11, 5, 1, S(155, 0, 1, 0, 5, 0, 0, 0));
+    make_block("1 4 7 t151 t90 9"), blocks_over("11 by more", normal, rest, 11, 4, 86, S(151, 0, 1, 0, 5, 0, 0, 0));
     make_block("t5 t65535"), blocks("the clock's end by two ticks", normal, late, 0, 2, latest);
-    make_block("t5 t65535 t1"), blocks("13 by three ticks", normal, late, 13, 2, latest);
+    make_block("t5 t65535 t1"), blocks_over("13 by three ticks", normal, late, 13, 2, 1, latest);
+    make_block("t5 t65535 t300 14"), blocks_over("13 by more", normal, late, 13, 2, 300, latest);
+    make_block("8 9"), blocks_over("10", normal, S(900, 0, 10, 300, 3, 899, 0, 0), 10, 0, 450, S(900, 0, 10, 300, 3, 899, 0, 0));
+    make_block("4 7 9 8"), blocks_over("9 by more than 32 bits", normal, S(0, 0, 1, 4294967295, 1, 0, 0, 0), 9, 2, 4294967446,
+                                       S(0, 0, 1, 4294967295, 5, 0, 0, 0));
     make_block("1 t6"), blocks("12 under a looser table", with(0, 6), rest, 0, 2, S(6, 0, 1, 0, 1, 0, 0, 0));
-    make_block("1 t5"), blocks("12 under a tighter table", with(0, 4), rest, 12, 1, S(0, 0, 1, 0, 1, 0, 0, 0));
+    make_block("1 t5"), blocks_over("12 under a tighter table", with(0, 4), rest, 12, 1, 1, S(0, 0, 1, 0, 1, 0, 0, 0));
 
     /* The number of each code with the amount 0, at rest in neutral; then a run that has all thirteen. */
     static const uint8_t number[] = {5, 0, 8, 8, 7, 7, 7, 7, 7, 7, 7, 7, 6, 7, 5, 5};
@@ -881,7 +1017,8 @@ static void advancing_blocks(void)
     /* A block may be longer than any file. */
     ticks(MUNASIREL_MOST_RECORDS + 1, 65535), cut(0, steps);
     blocks("16,373 ticks", normal, rest, 0, 16373, S(1073004555, 0, 0, 0, 0, 0, 0, 0));
-    blocks("13 after 16,000 ticks", normal, S(3246407295, 1, 22, 9, 0, 9, 8, 0), 13, 16000, S(4294967295, 1, 22, 9, 0, 9, 8, 0));
+    blocks_over("13 after 16,000 ticks", normal, S(3246407295, 1, 22, 9, 0, 9, 8, 0), 13, 16000, 65535,
+                S(4294967295, 1, 22, 9, 0, 9, 8, 0));
 
     cuts_file(normal, K1);
     cuts_file(with(17, 1405), K1);
@@ -892,6 +1029,8 @@ static void advancing_blocks(void)
     cuts_file(normal, "1 4 7 t150 9");
     cuts_file(normal, "1 4 7 t151 9");
     cuts_file(normal, "1 4 7 t156");
+    cuts_file(normal, "1 t5 4 t65535");
+    cuts_file(normal, IN_GEAR " 3 4 7 t9 9");
     cuts_file(normal, "2");
     cuts_file(normal, "1 1");
     cuts_file(normal, "1 4 6");
@@ -928,30 +1067,34 @@ static int reads_as(munasirel_m9_variables v, const munasirel_state *state)
                          read.request_time == state->request_time));
 }
 
-/* Both engines from their starts over a list, whatever is refused of it: each number, and the reading after each. The variables at the
- * end are left where they can be looked at. */
+/* Both engines from their starts over a list, whatever is refused of it: each number and excess, and the reading after each. The
+ * variables at the end are left where they can be looked at. */
 static munasirel_m9_variables both(const char *name, munasirel_limits table, const char *text)
 {
     munasirel_m9_variables v = munasirel_m9_start();
     munasirel_state start = {0};
-    int numbers = 1, rules = 1, readings = 1, given_back = 1;
+    uint64_t none = 0;
+    int numbers = 1, rules = 1, excesses = 1, readings = 1, given_back = 1;
     list(text);
     fresh();
     munasirel_state *state = lend(&start, sizeof start);
+    uint64_t *excess = lend(&none, sizeof none);
     munasirel_m9_moved empty = {0};
     munasirel_m9_moved *moved = lend(&empty, sizeof empty);
     for (size_t i = 0; i < steps; i++) {
         uint8_t low = (uint8_t)(amounts[i] % 256), high = (uint8_t)(amounts[i] / 256);
-        uint8_t number = munasirel_advance(state, table, codes[i], 0, low, high);
+        uint8_t number = munasirel_advance(state, table, codes[i], 0, low, high, excess);
         *moved = munasirel_m9_advance(v, table, codes[i], 0, low, high);
         numbers &= moved->number == number;
         rules &= moved->rule == (number == 4 ? munasirel_admit(table) : 0);
+        excesses &= moved->excess == *excess;
         given_back &= number == 0 || same_variables(&moved->variables, &v);
         v = moved->variables;
         readings &= reads_as(v, state);
     }
     check("m9", name, "numbers", numbers);
     check("m9", name, "rules", rules);
+    check("m9", name, "excesses", excesses);
     check("m9", name, "variables of a refused step", given_back);
     check("m9", name, "readings", readings);
     check("m9", name, "bytes", guarded());
@@ -1034,6 +1177,7 @@ static void manual(void)
 int main(void)
 {
     judging();
+    giving();
     admitting();
     tabling();
     lining();
