@@ -8,6 +8,7 @@ use crate::fields::u32_at;
 use crate::fields::usize_at;
 use printing::number;
 use printing::number8;
+use printing::number64;
 use shift::Answer;
 use stepfile::write::Wish;
 use stepfile::write::Written;
@@ -36,6 +37,7 @@ pub(crate) fn advance(a: &[u8])
 fn print_answer(answer: Answer) {
     number8(answer.number);
     number8(answer.rule);
+    number64(answer.excess);
     printing::state(answer.state);
 }
 
@@ -55,6 +57,7 @@ fn print_verdict(verdict: Verdict) {
     number8(verdict.number);
     number8(verdict.rule);
     number(verdict.index);
+    number64(verdict.excess);
     printing::state(verdict.state);
 }
 
