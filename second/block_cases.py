@@ -3,16 +3,17 @@
 from itertools import cycle, product
 
 from corpus import LONGEST_FIELD, case_of
-from coverage import LISTED_NUMBERS, later_numbers, step_numbers
+from coverage import LISTED_NUMBERS, STAGE_LIMITS, later_numbers, step_numbers
 from files import RECORD
 from records import (
     LISTED, UNLISTED, any_record, bad_records, good_amount, packed_pieces, packed_steps, unlisted_code, unlisted_codes,
 )
 from rules import (
-    AT_REST, DEFAULT, GOOD, NO_SUCH_CODE, NOT_ADMITTED, REQUESTS, START, TAKE, TICK, TOO_LATE, WRONG_AMOUNT, forbidden,
+    AT_REST, DEFAULT, GOOD, NO_SUCH_CODE, NOT_ADMITTED, PHASES, REQUESTS, START, TAKE, TICK, TOO_LATE, WRONG_AMOUNT,
+    forbidden,
 )
 from search import first_found
-from step_cases import allowing, free_state, limits, refused_step, unlisted
+from step_cases import aimed_steps, aimed_tick, allowing, free_state, limits, past_both, refused_step, unlisted
 from tables import any_table, broken_table, edge_tables, good_table
 from walks import ROUNDS, any_walk, lead, mixed, states, timed
 
@@ -45,7 +46,7 @@ def ticks_to(chance, table, state):
     """A few ticks that lead to the state, and the state before them; None where they are refused."""
     ticks = [(TICK, chance.randint(1, 9)) for _ in range(chance.randint(1, 9))]
     clock = state.clock - sum(amount for _, amount in ticks)
-    if clock < 0 or forbidden(table, state._replace(clock=state.clock - 1), TICK, 1):
+    if clock < 0 or forbidden(table, state._replace(clock=state.clock - 1), TICK, 1)[0]:
         return None
     return ticks, state._replace(clock=clock)
 
@@ -87,6 +88,18 @@ def every_refusal(chance):
                 table, rest = good_table(chance), some_records(chance) if behind else b""
                 rest += left_over(chance, next(counts), chance.choice(LISTED))
                 yield block_case(table, *refused(chance, table, code, number), rest)
+
+
+def every_excess(chance):
+    """Records over each limit by excesses of each size, behind ticks where some lead there; ticks past both limits."""
+    for table, state, *step in aimed_steps(chance):
+        ticks, begin = ticks_to(chance, table, state) or ([], state)
+        yield block_case(table, begin, ticks, [step])
+    for stage in STAGE_LIMITS:
+        for past in past_both(chance):
+            table = good_table(chance)
+            state, amount = aimed_tick(chance, table, chance.choice(list(PHASES)), stage, *past)
+            yield block_case(table, state, [(TICK, amount)])
 
 
 def every_table(chance):
@@ -143,6 +156,7 @@ def whole_field(chance):
 def demanded(chance):
     """The cases that the coverage demands of this function."""
     yield from every_refusal(chance)
+    yield from every_excess(chance)
     yield from every_table(chance)
     yield from every_unlisted_field(chance)
     yield from every_left_over(chance)

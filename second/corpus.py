@@ -32,9 +32,9 @@ def write(wish, table, amounts, codes, buffer):
 
 def manual(table, records):
     """Both engines from their starts: the manual's, with its variables and their reading, and ours."""
-    number, rule, accepted, variables = files.run(m9.step, m9.START, table, records)
+    *answer, variables = files.run(m9.step, m9.START, table, records)
     seen = m9.flags(variables), m9.times(variables), m9.reading(variables)
-    return number, rule, accepted, seen, files.run(rules.step, rules.START, table, records)
+    return answer, seen, files.run(rules.step, rules.START, table, records)
 
 
 class Kind(NamedTuple):

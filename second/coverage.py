@@ -11,7 +11,7 @@ from rules import (
     ASK_CLUTCH, BOXES, DEVICE_PHASES, ENGINE_PHASES, ERROR, GOOD, IN_GEAR, NEUTRAL, NO_SUCH_CODE, NOT_ADMITTED,
     NOT_ALLOWED, ORDERS, PAST_CLOCK, PAST_PHASE_LIMIT, PAST_STAGE_LIMIT, PHASES, RELEASE, REQUESTS, RESET, SENT, SET,
     START, STAGES, SYNC, TAKE, TICK, TOO_EARLY, TOO_LATE, WORKING, WRONG_AMOUNT, WRONG_BOX, ZERO_TORQUE, broken_rule,
-    earliest_clock, latest_clocks, slacks,
+    excesses, slacks,
 )
 
 # No walk takes too late: rules 2 and 3 see to that. No file holds ticks enough to pass the last clock.
@@ -34,6 +34,14 @@ RESET_NUMBERS = 0, WRONG_AMOUNT, NOT_ALLOWED
 WAS_RESET = "reset"
 ERROR_COLUMNS = (*BOX_NAMES, WAS_RESET, *(f"then {code}" for code in REQUESTS))
 KEPT, PASSED, REFUSED = "just kept", "passed by one", "refused by it"
+# The sizes of an excess, each with the largest that has it.
+SIZES = {"1": 1, "16 bits": 2**16 - 1, "32 bits": 2**32 - 1, "64 bits": 2**64 - 1}
+STAGE_LIMITS = {SENT: "channel, sent", WORKING: "device", GOOD: "channel, good"}
+LESS, MORE = "less", "more"
+# The functions that are given a state, and those that begin at the start.
+STATE_GIVEN, FROM_START = ("step", "advance", "block"), ("judge", "manual")
+# The refusals with an excess.
+OVER = range(TOO_EARLY, PAST_CLOCK + 1)
 # The outcomes of blocks, where the refused record of one stands, and the code that bytes left over begin with.
 NO_RECORD, ACCEPTED, IS_REFUSED = "no record", "accepted", "refused"
 BAD_TABLE = ", bad table"
@@ -122,6 +130,24 @@ def limits_by_order(never=()):
             if row not in never:
                 rows[row] = {SYNC.name, ZERO_TORQUE.name} if limit in ("EX", "DE") else set(ORDER_NAMES)
     return rows
+
+
+def excess_sizes(number):
+    """The sizes of an excess on given states: past 32 bits is no clock, so only too early can be; 13's is in a tick."""
+    return {TOO_EARLY: {*SIZES}, PAST_CLOCK: {"1", "16 bits"}}.get(number, {*SIZES} - {"64 bits"})
+
+
+def sizes_by_number():
+    """The rows of a grid of functions with their refusals and of sizes; from the start no limit is far off."""
+    rows = {f"{name} {number}": excess_sizes(number) for name in STATE_GIVEN for number in OVER}
+    rows.update((f"{name} {number}", {"1", "16 bits"})
+                for name in FROM_START for number in OVER if number not in NEVER_IN_A_FILE)
+    return rows
+
+
+def both_limits(*how):
+    """The columns of ticks that pass both limits."""
+    return {f"{limit}: {each}" for limit in STAGE_LIMITS.values() for each in how}
 
 
 class Grid(NamedTuple):
@@ -228,6 +254,18 @@ GRIDS = {
         (*OUTCOMES, LISTED_LEFT, UNLISTED_LEFT),
         {left: {*OUTCOMES} | ({LISTED_LEFT, UNLISTED_LEFT} if left else set()) for left in range(RECORD.size)},
     ),
+    "excesses": Grid("refusals with an excess, by its size", tuple(SIZES), sizes_by_number()),
+    "both limits": Grid(
+        "ticks past both limits, by how far they are past that of the phase beside the other",
+        sorted(both_limits(LESS, MORE)),
+        # From the start the limit of a phase is the later one: rules 2 to 11 see to that.
+        {**{name: both_limits(LESS, MORE) for name in STATE_GIVEN}, **{name: both_limits(LESS) for name in FROM_START}},
+    ),
+    "digits": Grid(
+        "digits of the excess on lines, by number",
+        range(1, 6),
+        {number: set(range(1, 6)) for number in OVER if number not in NEVER_IN_A_FILE},
+    ),
     "unlisted": Grid(
         "numbers of blocks on states that are not listed, by the field",
         (NO_RECORD, NOT_ADMITTED, NO_SUCH_CODE, WRONG_AMOUNT, NOT_ALLOWED),
@@ -239,7 +277,7 @@ GRIDS = {
 def limit_name(refusal, stage):
     """A limit's name, by the refusal for passing it."""
     if refusal == PAST_STAGE_LIMIT:
-        return {SENT: "channel, sent", GOOD: "channel, good", WORKING: "device"}[stage]
+        return STAGE_LIMITS[stage]
     return {PAST_PHASE_LIMIT: "phase", TOO_LATE: "EX", TOO_EARLY: "DE", PAST_CLOCK: "last clock"}[refusal]
 
 
@@ -247,14 +285,24 @@ def limit_marks(grid, table, state, code, amount, number):
     """The limits that an accepted step just keeps, or the one that a refused step passes by one."""
     if state.phase not in PHASES or 0 < number < TOO_EARLY:
         return
-    clock = state.clock + amount
-    excesses = [(refusal, clock - latest) for refusal, latest in latest_clocks(table, state, code)]
-    if code == ASK_CLUTCH:
-        excesses.append((TOO_EARLY, earliest_clock(table, state, code) - clock))
-    for refusal, excess in excesses:
+    for refusal, excess in excesses(table, state, code, amount):
         if (number, excess) in ((0, 0), (refusal, 1)):
             row = f"{limit_name(refusal, state.stage)}: {'passed' if number else 'kept'}"
             yield grid, row, PHASES[state.phase].order.name
+
+
+def excess_marks(name, number, excess):
+    """The mark of a refusal's excess."""
+    if excess:
+        yield "excesses", f"{name} {number}", next(size for size, largest in SIZES.items() if excess <= largest)
+
+
+def both_marks(name, stage, found):
+    """The mark of a tick that passes both limits unequally far, by its excesses, each behind its refusal."""
+    past = dict(found)
+    past_stage, past_phase = past.get(PAST_STAGE_LIMIT, 0), past.get(PAST_PHASE_LIMIT, 0)
+    if min(past_stage, past_phase) > 0 and past_stage != past_phase:
+        yield "both limits", name, f"{STAGE_LIMITS[stage]}: {LESS if past_phase < past_stage else MORE}"
 
 
 def column(code):
@@ -266,6 +314,8 @@ def record_marks(name, limits, table, state, code, amount, number):
     """The marks of a code, an amount and their number, in the grids of a function and of its limits."""
     yield name, number, column(code)
     yield from limit_marks(limits, table, state, code, amount, number)
+    if number == PAST_STAGE_LIMIT:
+        yield from both_marks(name, state.stage, excesses(table, state, code, amount))
     if code == RESET and number in RESET_NUMBERS and state.phase <= ERROR:
         yield "resets", state.phase, f"{name} {number}"
 
@@ -278,8 +328,9 @@ def take_marks(grid, state, code, number, after):
 
 def single_marks(name, answer, table, state, code, amount):
     """The marks of a step on a given state."""
-    number, rule, after = answer
+    number, rule, excess, after = answer
     yield from answer_marks(name, number, rule)
+    yield from excess_marks(name, number, excess)
     yield from record_marks(name, "limits", table, state, code, amount, number)
     yield from take_marks("takes", state, code, number, after)
     if (code, number) == (RESET, 0):
@@ -339,12 +390,13 @@ def read_marks(answer, _):
 
 def judge_marks(answer, file):
     """The marks of the judge, and of each record that it judges."""
-    number, rule, _, _ = answer
+    number, rule, _, excess, _ = answer
     yield from answer_marks("judge", number, rule)
+    yield from excess_marks("judge", number, excess)
     _, _, table, records = read(file)
     state, accepted = START, []
     yield "stages", state.phase, STAGE_NAMES[state.stage]
-    for four, (number, after) in zip(fours(records), judged(table, records)):
+    for four, (number, _, after) in zip(fours(records), judged(table, records)):
         code, amount, _ = record(four)
         yield from record_marks("judge", "file limits", table, state, code, amount, number)
         yield from take_marks("file takes", state, code, number, after)
@@ -357,8 +409,10 @@ def judge_marks(answer, file):
 
 def line_marks(answer, file, _):
     """The marks of a line."""
-    word = line(file).split()[0].decode()
+    word, _, reason, _, _, _, excess = line(file).decode().split()
     yield "numbers", f"line {word}", answer[0]
+    if excess != "0" and answer[0] == 0:
+        yield "digits", int(reason), len(excess)
 
 
 def join_marks(answer, held, _, __, buffer):
@@ -382,7 +436,11 @@ def event_marks(table, variables, code, amount, number):
     if 0 < number <= NOT_ALLOWED:
         return
     yield "events", "Tick_Tock" if code == TICK else m9.M9.chosen(variables, code).name, number
-    for deadline, excess in m9.M9.excesses(table, variables, amount) if code == TICK else ():
+    found = m9.M9.excesses(table, variables, amount) if code == TICK else []
+    if number == PAST_STAGE_LIMIT:
+        past = [(deadline.refusal(), excess) for deadline, excess in found]
+        yield from both_marks("manual", m9.reading(variables).stage, past)
+    for deadline, excess in found:
         if (number, excess) == (0, 0):
             yield "deadlines", deadline.label, KEPT
         if excess > 0 and number == deadline.refusal():
@@ -393,13 +451,14 @@ def event_marks(table, variables, code, amount, number):
 
 def manual_marks(answer, table, records):
     """The marks of the manual's engine, and of each record that it is advanced by."""
-    number, rule, *_ = answer
+    (number, rule, _, excess), *_ = answer
     yield from answer_marks("manual", number, rule)
+    yield from excess_marks("manual", number, excess)
     variables, accepted = m9.START, []
     yield ("places", *place_of(variables))
     for four in fours(records):
         code, amount, middle = record(four)
-        number, _, after = m9.step(table, variables, code, amount, middle)
+        number, *_, after = m9.step(table, variables, code, amount, middle)
         yield "manual", number, column(code)
         yield from event_marks(table, variables, code, amount, number)
         if code == RESET and number in (0, NOT_ALLOWED):
@@ -421,11 +480,15 @@ def place_in(index, count):
 
 def block_marks(answer, table, state, records):
     """The marks of a block."""
-    number, rule, accepted, _ = answer
+    number, rule, accepted, excess, reached = answer
     yield from answer_marks("block", number, rule)
+    yield from excess_marks("block", number, excess)
     count, left = divmod(len(records), RECORD.size)
     if number:
         yield "block places", number, place_in(accepted, count)
+    if number == PAST_STAGE_LIMIT:
+        code, amount, _ = record(records[RECORD.size * accepted:][:RECORD.size])
+        yield from both_marks("block", reached.stage, excesses(table, reached, code, amount))
     outcome = NO_RECORD if not count else IS_REFUSED if number else ACCEPTED
     yield "left over", left, outcome + (BAD_TABLE if broken_rule(table) else "")
     if left and outcome == ACCEPTED:

@@ -6,7 +6,9 @@ from files import HEADER, MOST_RECORDS, RECORD, Header, file_of, header_of, line
 from records import LISTED, any_record, bad_records, packed_steps, tick_amount, unlisted_codes
 from rules import DEFAULT, FROM_NEUTRAL, LONGEST_TICK, RESET, TICK, forbidden, latest_clocks
 from tables import admitted_table, any_table, broken_table, edge_tables, good_table
-from walks import FINISHED, ROUNDS, SHIFTS, any_walk, edges, lead, mixed, states, timed, walks_through_errors
+from walks import (
+    FINISHED, ROUNDS, SHIFTS, SLOW, any_walk, edges, lead, mixed, states, timed, walks_over, walks_through_errors,
+)
 
 
 def file_with(chance, table, *pieces):
@@ -96,7 +98,7 @@ def faults(chance, table, state):
         yield from bad_records(chance, code)
     past = [(TICK, latest - state.clock + 1) for _, latest in latest_clocks(table, state, TICK)]
     for code, amount in [(code, 0) for code in LISTED if code != TICK] + past:
-        if amount <= LONGEST_TICK and forbidden(table, state, code, amount):
+        if amount <= LONGEST_TICK and forbidden(table, state, code, amount)[0]:
             yield packed_steps([(code, amount)])
 
 
@@ -177,6 +179,14 @@ def lines_along_walks(chance):
                 yield line_case(chance, file_with(chance, DEFAULT, steps[:end], more), 0)
 
 
+def every_excess(chance):
+    """Walks that are refused by excesses of one to five digits, judged and as lines."""
+    for steps in walks_over(chance):
+        file = file_with(chance, SLOW, steps)
+        yield case_of("judge", file)
+        yield line_case(chance, file, 0)
+
+
 def largest(chance):
     """The largest good files, those with their last record spoilt, and larger ones."""
     shift = timed(DEFAULT, FINISHED[FROM_NEUTRAL][0], mixed(chance))
@@ -203,6 +213,7 @@ def demanded(chance):
     yield from damaged_files(chance)
     yield from every_line(chance)
     yield from lines_along_walks(chance)
+    yield from every_excess(chance)
     yield from largest(chance)
 
 

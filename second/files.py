@@ -78,51 +78,51 @@ def record(four):
 
 
 def advance(table, state, four):
-    """The running judge, one record a call: number, rule and state."""
+    """The running judge, one record a call: number, rule, excess and state."""
     return step(table, state, *record(four))
 
 
 def run(engine, start, table, records):
-    """An engine over records, up to the first that it refuses: number, rule, records accepted and where it came to."""
-    number, rule, accepted, reached = 0, 0, 0, start
+    """An engine over records, up to the first that it refuses: number, rule, records accepted, excess and the end."""
+    number, rule, accepted, excess, reached = 0, 0, 0, 0, start
     for four in fours(records):
-        number, rule, reached = engine(table, reached, *record(four))
+        number, rule, excess, reached = engine(table, reached, *record(four))
         if number:
             break
         accepted += 1
-    return number, rule, accepted, reached
+    return number, rule, accepted, excess, reached
 
 
 def block(table, state, records):
-    """The running judge, a block of whole records a call: number, rule, records accepted and state."""
+    """The running judge, a block of whole records a call: number, rule, records accepted, excess and state."""
     whole = records[:len(records) // RECORD.size * RECORD.size]
     return run(step, state, table, whole)
 
 
 def judged(table, records):
-    """Each record's number and the state after it, from the start state to the first that is refused."""
+    """Each record's number, its excess and the state after it, from the start state to the first that is refused."""
     state = START
     for four in fours(records):
-        number, state = admitted_step(table, state, *record(four))
-        yield number, state
+        number, excess, state = admitted_step(table, state, *record(four))
+        yield number, excess, state
         if number:
             return
 
 
 def judge(file):
-    """The judge: number, rule, records accepted and state."""
+    """The judge: number, rule, records accepted, excess and state."""
     number, rule, table, records = read(file)
-    accepted, state = 0, START
-    for number, state in judged(table, records):
+    accepted, excess, state = 0, 0, START
+    for number, excess, state in judged(table, records):
         accepted += number == 0
-    return number, rule, accepted, state
+    return number, rule, accepted, excess, state
 
 
 def line(file):
     """The line that the program prints."""
-    number, _, accepted, state = judge(file)
+    number, _, accepted, excess, state = judge(file)
     word = "accepted" if number == 0 else "unread" if number <= NOT_ADMITTED else "refused"
-    return f"{word} {accepted} {number} {state.clock} {state.phase} {state.box}\n".encode()
+    return f"{word} {accepted} {number} {state.clock} {state.phase} {state.box} {excess}\n".encode()
 
 
 def laid(text, buffer):

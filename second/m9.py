@@ -249,13 +249,14 @@ class Ready(NamedTuple):
     actions: Tuple[Action, ...]
 
     def refusal(self, table, variables):
-        """The number 8, 9 or 10 for its guards on the box and on times, or 0."""
+        """The number 8, 9 or 10 for its guards on the box and on times with the excess, or 0 and 0."""
         if not self.box.met(variables):
-            return WRONG_BOX
+            return WRONG_BOX, 0
         for bound in self.bounds:
-            if bound.excess(table, variables, variables["time"]) > 0:
-                return TOO_EARLY if bound.relation == "≥" else TOO_LATE
-        return 0
+            excess = bound.excess(table, variables, variables["time"])
+            if excess > 0:
+                return TOO_EARLY if bound.relation == "≥" else TOO_LATE, excess
+        return 0, 0
 
 
 def ready(name, guards, actions):
@@ -303,35 +304,35 @@ class Machine:
                 for deadline in up if deadline.flags.met(variables)]
 
     def tick(self, table, variables, amount):
-        """Tick_Tock: the number 13, 12 or 11, or 0, and the variables."""
-        if variables["time"] + amount > LAST_CLOCK:
-            return PAST_CLOCK, variables
-        passed = {deadline.refusal() for deadline, excess in self.excesses(table, variables, amount) if excess > 0}
-        for number in (PAST_STAGE_LIMIT, PAST_PHASE_LIMIT):
-            if number in passed:
-                return number, variables
-        return 0, done(self.tick_tock.actions, variables, amount)
+        """Tick_Tock: the number 13, 12 or 11 with the excess of its first guard, or 0 and 0, and the variables."""
+        found = [(PAST_CLOCK, variables["time"] + amount - LAST_CLOCK)]
+        found += [(deadline.refusal(), excess) for deadline, excess in self.excesses(table, variables, amount)]
+        for number in (PAST_CLOCK, PAST_STAGE_LIMIT, PAST_PHASE_LIMIT):
+            passed = [excess for refusal, excess in found if refusal == number and excess > 0]
+            if passed:
+                return number, passed[0], variables
+        return 0, 0, done(self.tick_tock.actions, variables, amount)
 
     def chosen(self, variables, code):
         """The first event of a code whose guards on flags hold, or None."""
         return next((event for event in self.events[code] if event.flags.met(variables)), None)
 
     def event(self, table, variables, code):
-        """The event of a code: the number 7 to 10, or 0, and the variables."""
+        """The event of a code: the number 7 to 10 with its excess, or 0 and 0, and the variables."""
         event = self.chosen(variables, code)
-        number = event.refusal(table, variables) if event else NOT_ALLOWED
-        return number, variables if number else done(event.actions, variables)
+        number, excess = event.refusal(table, variables) if event else (NOT_ALLOWED, 0)
+        return number, excess, variables if number else done(event.actions, variables)
 
     def step(self, table, variables, code, amount, middle=0):
-        """One step under any table: number, rule and variables."""
+        """One step under any table: number, rule, excess and variables."""
         rule = broken_rule(table)
         if rule:
-            return NOT_ADMITTED, rule, variables
-        number = unreadable(code, amount, middle)
+            return NOT_ADMITTED, rule, 0, variables
+        number, excess = unreadable(code, amount, middle), 0
         if not number:
-            number, variables = (self.tick(table, variables, amount) if code == TICK
-                                 else self.event(table, variables, code))
-        return number, 0, variables
+            number, excess, variables = (self.tick(table, variables, amount) if code == TICK
+                                         else self.event(table, variables, code))
+        return number, 0, excess, variables
 
 
 M9 = Machine()

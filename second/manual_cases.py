@@ -1,6 +1,6 @@
 """Cases of manual: lists to every place of the manual's machine, with steps there that are accepted or refused."""
 
-from itertools import cycle
+from itertools import cycle, product
 
 import places
 from corpus import case_of
@@ -10,7 +10,7 @@ from rules import (
     REQUESTS, RESET, SENT, TAKE, TICK, WORKING,
 )
 from tables import admitted_table, any_table, broken_table, edge_tables, good_table
-from walks import SHIFTS, any_walk, edges, lead, mixed, states, timed, walks_through_errors
+from walks import SHIFTS, SLOW, any_walk, edges, lead, mixed, states, timed, walks_over, walks_through_errors
 
 # Lists are not longer: the programs that answer them may run under an emulator.
 MOST_STEPS = 250
@@ -67,6 +67,14 @@ def every_limit(chance):
             yield manual_case(table, steps, edge)
 
 
+def every_excess(chance):
+    """Walks that are refused by excesses of one to five digits, and ones that end as late as an engine's order can."""
+    for steps in walks_over(chance):
+        yield manual_case(SLOW, steps)
+    for request, way in product(REQUESTS, ((DELIVER, DEVICE_GOOD, TAKE), (DELIVER, ENGINE_WAITS, ASK_CLUTCH))):
+        yield manual_case(SLOW, timed(SLOW, (*lead(chance, request), request, *way), max))
+
+
 def every_shift(chance):
     """Every shift at its slowest under a tight table, and what a tick does after it."""
     for request, shifts in SHIFTS.items():
@@ -106,6 +114,7 @@ def demanded(chance):
     yield from every_place(chance)
     yield from every_request(chance)
     yield from every_limit(chance)
+    yield from every_excess(chance)
     yield from every_shift(chance)
     yield from every_error(chance)
     yield from every_table(chance)

@@ -120,7 +120,7 @@ def place_text(phase, how):
 
 def flags_in(line):
     """The names of the flags that are up in a line of manual whose list was accepted."""
-    found = re.match(r"manual 0 0 \d+ ((?:0[01]){%d}) " % len(BOOLS), line)
+    found = re.match(r"manual 0 0 \d+ 0 ((?:0[01]){%d}) " % len(BOOLS), line)
     if not found:
         raise NotMade(f"not a line of manual with all records accepted: {line[:80]}")
     return [name for name, value in zip(BOOLS, bytes.fromhex(found.group(1))) if value]

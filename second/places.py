@@ -39,7 +39,7 @@ def ways():
         for codes in [lead + shift for shift in shifts for lead in leads(request)]:
             variables, way = m9.START, ()
             for code, amount in timed(DEFAULT, codes, min):
-                _, _, variables = m9.step(DEFAULT, variables, code, amount)
+                *_, variables = m9.step(DEFAULT, variables, code, amount)
                 if code != TICK:
                     way += (code,)
                     found.setdefault(place_of(variables), {})[way] = None

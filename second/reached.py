@@ -65,7 +65,7 @@ def reached(machine, table, ticks):
         state = waiting.popleft()
         yield state
         for step in [(code, 0) for code in CODES] + [(TICK, tick) for tick in ticks(machine, table, state.variables)]:
-            number, _, variables = machine.step(table, state.variables, *step)
+            number, *_, variables = machine.step(table, state.variables, *step)
             key = None if number else merged(machine, table, variables)
             if key and key not in seen:
                 seen.add(key)
@@ -73,7 +73,7 @@ def reached(machine, table, ticks):
 
 
 class Change(NamedTuple):
-    """A list of steps whose last has another answer as printed than as settled, and both numbers."""
+    """A list of steps whose last has another number as printed than as settled, or leads elsewhere; both numbers."""
 
     steps: Tuple[Tuple[int, int], ...]
     printed: int
@@ -85,16 +85,17 @@ class Change(NamedTuple):
 
 
 def changes(settlement, table, states):
-    """Where the settlement, when it is off, changes an answer on these states."""
+    """Where the settlement, when it is off, changes a number on these states or what a step leads to."""
     code, = (code for code, names in m9.NAMES_BY_CODE.items() if settlement.event in names)
     printed = Machine([settlement])
     for variables, steps in states:
         amounts = {0} if code != TICK else {
             tick for machine in (M9, printed) for tick in probes(machine, table, variables)}
         for amount in sorted(amounts):
-            off, on = (machine.step(table, variables, code, amount) for machine in (printed, M9))
-            if off != on:
-                yield Change(steps + ((code, amount),), off[0], on[0])
+            (off, *_, off_end), (on, *_, on_end) = (machine.step(table, variables, code, amount)
+                                                    for machine in (printed, M9))
+            if (off, off_end) != (on, on_end):
+                yield Change(steps + ((code, amount),), off, on)
 
 
 def first_change(settlement, table, states):

@@ -213,17 +213,23 @@ def latest_clocks(table, state, code):
     return latest
 
 
+def excesses(table, state, code, amount):
+    """The milliseconds by which a step is too early or past each limit, each behind its refusal and in that order."""
+    clock = state.clock + amount
+    if code == ASK_CLUTCH:
+        return [(TOO_EARLY, earliest_clock(table, state, code) - clock)]
+    return [(number, clock - latest) for number, latest in latest_clocks(table, state, code)]
+
+
 def forbidden(table, state, code, amount):
-    """The refusal 7 to 13 of a step on a state, or 0."""
+    """The refusal 7 to 13 of a step on a state with its excess, or 0 and 0."""
     phases, stages = ALLOWED[code]
     if state.phase not in phases or state.stage not in stages or state.box not in BOXES:
-        return NOT_ALLOWED
+        return NOT_ALLOWED, 0
     if code in REQUESTS and state.box != REQUESTS[code].box:
-        return WRONG_BOX
-    clock = state.clock + amount
-    if clock < earliest_clock(table, state, code):
-        return TOO_EARLY
-    return next((number for number, latest in latest_clocks(table, state, code) if clock > latest), 0)
+        return WRONG_BOX, 0
+    found = excesses(table, state, code, amount)
+    return next(((number, excess) for number, excess in found if excess > 0), (0, 0))
 
 
 def enter(state, phase):
@@ -263,15 +269,16 @@ def after(state, code, amount):
 
 
 def admitted_step(table, state, code, amount, middle=0):
-    """One step under an admitted table: number and state."""
-    number = unreadable(code, amount, middle) or forbidden(table, state, code, amount)
-    return number, state if number else after(state, code, amount)
+    """One step under an admitted table: number, excess and state."""
+    unread = unreadable(code, amount, middle)
+    number, excess = (unread, 0) if unread else forbidden(table, state, code, amount)
+    return number, excess, state if number else after(state, code, amount)
 
 
 def step(table, state, code, amount, middle=0):
-    """One step on any state and table: number, rule and state."""
+    """One step on any state and table: number, rule, excess and state."""
     rule = broken_rule(table)
     if rule:
-        return NOT_ADMITTED, rule, state
-    number, state = admitted_step(table, state, code, amount, middle)
-    return number, 0, state
+        return NOT_ADMITTED, rule, 0, state
+    number, excess, state = admitted_step(table, state, code, amount, middle)
+    return number, 0, excess, state

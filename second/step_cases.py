@@ -3,20 +3,25 @@
 from itertools import product
 
 from corpus import case_of
-from coverage import LISTED_NUMBERS, step_numbers
+from coverage import LISTED_NUMBERS, OVER, STAGE_LIMITS, step_numbers
 from records import (
     EXTREME_AMOUNTS, LISTED, any_record, bad_amount, bad_records, good_amount, packed_steps, tick_amount,
     unlisted_code, unlisted_codes,
 )
 from rules import (
     ALLOWED, ASK_CLUTCH, AT_REST, BOXES, DEFAULT, DONE, ENGINE_PHASES, ERROR, GOOD, LAST_CLOCK, LONGEST_TICK,
-    NOT_ALLOWED, PAST_PHASE_LIMIT, PAST_STAGE_LIMIT, PHASES, REQUESTS, RESET, STAGES, START, TAKE, TICK, TOO_LATE,
-    WAITING, State, Table, earliest_clock, forbidden, latest_clocks,
+    NOT_ALLOWED, PAST_CLOCK, PAST_PHASE_LIMIT, PAST_STAGE_LIMIT, PHASES, REQUESTS, RESET, STAGES, START, TAKE, TICK,
+    TOO_EARLY, TOO_LATE, WAITING, State, Table, earliest_clock, forbidden, latest_clocks,
 )
 from search import first_found
 from tables import LARGEST_ENTRY, admitted_table, any_table, broken_table, edge_tables, good_table
 
 BESIDE = -1, 0, 1
+# How far ticks go past the limits of a stage and of its phase, where they just keep or pass one of them.
+PAST = (-1, 0), (-1, 1), (0, -1), (0, 0), (0, 1), (1, -1), (1, 0)
+# Excesses at the ends of their sizes and where a sign would change, and the largest that each refusal gets of them.
+EXCESSES = 1, 2, 2**16 - 1, 2**16, 2**31, LAST_CLOCK - LARGEST_ENTRY, LAST_CLOCK, LAST_CLOCK + 1
+LARGEST_EXCESS = {TOO_EARLY: LAST_CLOCK + 1, PAST_CLOCK: LONGEST_TICK}
 
 
 def both(table, state, code, amount):
@@ -92,6 +97,44 @@ def aimed_tick(chance, table, phase, stage, past_stage, past_phase):
     return state, amount
 
 
+def past_both(chance):
+    """How far ticks go that pass both limits, further past one of them."""
+    far = chance.randint(2, 400)
+    return (1, far), (far, 1)
+
+
+def aimed_engine(chance, table, number, excess):
+    """A state of an engine's phase, and a step that is refused on it with 9 or 10 by so much."""
+    phase = chance.choice(sorted(ENGINE_PHASES))
+    if number == TOO_EARLY:
+        code, stage, age = ASK_CLUTCH, WAITING, earliest_clock(table, START._replace(phase=phase), ASK_CLUTCH) - excess
+    else:
+        code, stage, age = TAKE, GOOD, limits(table, phase, GOOD, TAKE)[TOO_LATE] + excess
+    clock = chance.choice((max(0, age), min(LAST_CLOCK, LAST_CLOCK + age)))
+    return free_state(chance, clock=clock, phase=phase, phase_time=clock - age, stage=stage), code, 0
+
+
+def aimed_step(chance, table, number, excess):
+    """A state and a step that is refused on it with this number, from 9 on, by so much."""
+    if number in (TOO_EARLY, TOO_LATE):
+        return aimed_engine(chance, table, number, excess)
+    if number == PAST_CLOCK:
+        amount = chance.randint(excess, LONGEST_TICK)
+        return free_state(chance, clock=LAST_CLOCK + excess - amount), TICK, amount
+    past = (excess, chance.choice(BESIDE)) if number == PAST_STAGE_LIMIT else (chance.choice((-1, 0)), excess)
+    phase, stage = chance.choice(list(PHASES)), chance.choice(list(STAGE_LIMITS))
+    state, amount = aimed_tick(chance, table, phase, stage, *past)
+    return state, TICK, amount
+
+
+def aimed_steps(chance):
+    """Tables, states and steps that are refused with each number from 9 on, by excesses of each size."""
+    for number, excess in product(OVER, EXCESSES):
+        if excess <= LARGEST_EXCESS.get(number, LAST_CLOCK - LARGEST_ENTRY):
+            table = good_table(chance)
+            yield (table, *aimed_step(chance, table, number, excess))
+
+
 def extreme_entries(chance):
     """The default, and admitted tables with one entry at an end of its range or where sums of 16 bits would wrap."""
     yield case_of("admit", DEFAULT)
@@ -160,7 +203,7 @@ def accepted_step(chance, table, code, phase, box):
         state = allowing(chance, code, phase=phase, box=box, failed_phase=chance.randint(1, 255))
         amount = good_amount(chance, code)
         times = {0, state.clock, state.phase_time, state.stage_time, state.request_time}
-        return (state, amount) if len(times) == 5 and not forbidden(table, state, code, amount) else None
+        return (state, amount) if len(times) == 5 and not forbidden(table, state, code, amount)[0] else None
 
     return first_found(f"a state with phase {phase} and box {box} on which code {code} is accepted", attempt)
 
@@ -185,7 +228,7 @@ def refused_step(chance, table, code, number, any_amount):
         if number == NOT_ALLOWED:
             state = chance.choice((free_state(chance), unlisted(chance, state)))
         amount = any_amount(chance, code)
-        return (state, amount) if forbidden(table, state, code, amount) == number else None
+        return (state, amount) if forbidden(table, state, code, amount)[0] == number else None
 
     return first_found(f"a state and an amount for which code {code} is refused with {number}", attempt)
 
@@ -216,12 +259,21 @@ def two_refusals(chance):
                 yield case_of("step", good, wrong, code, amount)
 
 
+def every_excess(chance):
+    """Steps over each limit by excesses of each size, and the earliest of all in every engine's phase."""
+    for given in aimed_steps(chance):
+        yield from both(*given)
+    for phase in sorted(ENGINE_PHASES):
+        state = free_state(chance, clock=0, phase=phase, phase_time=LAST_CLOCK, stage=WAITING)
+        yield from both(good_table(chance), state, ASK_CLUTCH, 0)
+
+
 def ticks_beside_limits(chance):
-    """Ticks to one below, to and to one past the limits of every phase and stage, in every pairing."""
-    for phase, stage, past_phase in product(PHASES, STAGES, BESIDE):
-        table = good_table(chance)
-        for past_stage in BESIDE if PAST_STAGE_LIMIT in limits(table, phase, stage, TICK) else (0,):
-            state, amount = aimed_tick(chance, table, phase, stage, past_stage, past_phase)
+    """Ticks to the limits of every phase and stage and to one past them, in every pairing, and past both limits."""
+    for phase, stage in product(PHASES, STAGES):
+        for past in (*PAST, *past_both(chance)) if stage in STAGE_LIMITS else ((0, 0), (0, 1)):
+            table = good_table(chance)
+            state, amount = aimed_tick(chance, table, phase, stage, *past)
             yield from both(table, state, TICK, amount)
 
 
@@ -271,6 +323,7 @@ def demanded(chance):
     yield from neither_listed(chance)
     yield from every_effect(chance)
     yield from two_refusals(chance)
+    yield from every_excess(chance)
     yield from ticks_beside_limits(chance)
     yield from ticks_beside_the_last_clock(chance)
     yield from engines_beside_limits(chance)

@@ -12,16 +12,17 @@ import compare
 import generator
 from block_cases import refused_behind_ticks
 from corpus import case_of, worked
-from coverage import Coverage, later_numbers, marks, possible_cells
+from coverage import OVER, Coverage, later_numbers, marks, possible_cells
 from files import block, file_of, judge
 from generator import cases
 from records import LISTED, packed_pieces, packed_steps
-from rules import DEFAULT, REQUESTS, START, State, broken_rule, slacks
+from rules import DEFAULT, LAST_CLOCK, REQUESTS, START, State, broken_rule, slacks, step
 from search import MOST_TRIES, NotFound, first_found
+from step_cases import aimed_steps
 from tables import admitted_table, edge_tables, good_table
 from test_files import WOULD_NOT_CLOSE, written
 from versions import Wrong, loaded
-from walks import ROUNDS, SHIFTS, lead, leads, mixed, timed, walks_through_errors
+from walks import ROUNDS, SHIFTS, SLOW, lead, leads, mixed, steps_over, timed, walks_over, walks_through_errors
 
 
 class Makers(unittest.TestCase):
@@ -45,7 +46,7 @@ class Makers(unittest.TestCase):
                 table = admitted_table(self.chance)
                 for pace in (min, max, mixed(self.chance)):
                     steps = timed(table, lead(self.chance, request) + shift, pace)
-                    number, _, _, state = judge(file_of(table, packed_steps(steps)))
+                    number, *_, state = judge(file_of(table, packed_steps(steps)))
                     self.assertEqual((number, state.phase), (0, 0))
 
     def test_leads(self):
@@ -53,7 +54,7 @@ class Makers(unittest.TestCase):
         for request in REQUESTS:
             for codes in leads(request):
                 file = file_of(None, packed_steps(timed(DEFAULT, codes, min)))
-                self.assertEqual(judge(file)[3].box, REQUESTS[request].box)
+                self.assertEqual(judge(file)[-1].box, REQUESTS[request].box)
 
     def test_walks_through_errors(self):
         walks = list(walks_through_errors(self.chance, admitted_table))
@@ -66,6 +67,27 @@ class Makers(unittest.TestCase):
                 table = good_table(self.chance)
                 state, ticks, four = refused_behind_ticks(self.chance, table, code, number)
                 self.assertEqual(block(table, state, packed_pieces(ticks, four))[:3], (number, 0, len(ticks)))
+
+    def test_steps_that_are_over_by_an_excess(self):
+        sizes = {number: set() for number in OVER}
+        for table, state, code, amount in aimed_steps(self.chance):
+            number, rule, excess, _ = step(table, state, code, amount)
+            sizes[number].add(excess)
+            self.assertEqual(rule, 0)
+        narrow = {1, 2, 2**16 - 1, 2**16, 2**31, LAST_CLOCK - 65_535}
+        self.assertEqual(sizes, {9: narrow | {LAST_CLOCK, LAST_CLOCK + 1}, 10: narrow, 11: narrow, 12: narrow,
+                                 13: {1, 2, 65_535}})
+
+    def test_walks_that_are_over_by_an_excess(self):
+        answers = [judge(file_of(SLOW, packed_steps(steps))) for steps in walks_over(self.chance)]
+        self.assertEqual([(number, len(str(excess))) for number, _, _, excess, _ in answers],
+                         [(number, digits) for number in (9, 11, 12) for digits in range(1, 6)])
+
+    def test_steps_over_a_limit(self):
+        waiting = State(clock=100, phase=1, stage=5)
+        self.assertEqual([steps_over(DEFAULT, waiting, number, 3) for number in (9, 11, 13)],
+                         [[(12, 48), (9, 0)], [(12, 58)], None])
+        self.assertIsNone(steps_over(DEFAULT, waiting, 9, 51))
 
     def test_a_seed_makes_the_same_cases(self):
         first, again, other = (list(islice(cases(seed, 0), 200)) for seed in (7, 7, 8))
@@ -126,6 +148,33 @@ class TheCoverage(unittest.TestCase):
             ((DEFAULT, State(phase=24), shift), {("unlisted", "phase", 7)}),
         ):
             self.assert_marked(cells, "block", *given)
+
+    def test_excesses(self):
+        sent, ahead = State(phase=1, stage=1), State(phase=1, phase_time=LAST_CLOCK, stage=5)
+        late = State(clock=400, phase=1, stage=2, stage_time=400)
+        for given, cells in (
+            (("step", DEFAULT, sent, 12, 6), {("excesses", "step 12", "1")}),
+            (("step", DEFAULT, sent, 12, 7), {("excesses", "step 12", "16 bits")}),
+            (("step", DEFAULT, sent, 12, 157), {("both limits", "step", "channel, sent: less")}),
+            (("step", DEFAULT, late, 12, 101), {("excesses", "step 12", "1"), ("both limits", "step", "device: more")}),
+            (("step", DEFAULT, ahead, 9, 0), {("excesses", "step 9", "64 bits")}),
+            (("advance", DEFAULT, ahead._replace(clock=151), b"\x09\0\0\0"), {("excesses", "advance 9", "32 bits")}),
+            (("block", DEFAULT, ahead, written("t151 9")[12:]), {("excesses", "block 9", "32 bits")}),
+            (("block", DEFAULT, State(clock=100, phase=1, stage=2, stage_time=100), written("t2 t255")[12:]),
+             {("both limits", "block", "device: more")}),
+            (("judge", written("1 4 t256")),
+             {("excesses", "judge 12", "16 bits"), ("both limits", "judge", "device: less")}),
+            (("manual", DEFAULT, written("1 4 t256")[12:]), {("both limits", "manual", "device: less")}),
+            (("manual", DEFAULT, written("1 4 7 t156")[12:]), {("excesses", "manual 11", "1")}),
+            (("line", written("1 4 7 9"), bytes(30)), {("digits", 9, 3)}),
+        ):
+            self.assert_marked(cells, *given)
+        for given in (
+            ("step", DEFAULT, late._replace(phase_time=295, stage_time=350), 12, 51), ("step", DEFAULT, sent, 12, 6),
+            ("line", written("1 4 7 9"), b""), ("judge", written(WOULD_NOT_CLOSE)), ("judge", written("1 1")),
+        ):
+            grids = {grid for grid, _, _ in marks(worked(case_of(*given)))}
+            self.assertTrue(grids.isdisjoint({"both limits", "digits"}))
 
     def test_what_did_not_come_up_is_missing(self):
         coverage = Coverage()

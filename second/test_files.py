@@ -26,18 +26,18 @@ def written(text, table=None):
 
 
 class KnownRuns(unittest.TestCase):
-    def assert_run(self, text, number, count, **fields):
-        """The judge's number and count of a run, and fields of its state; the running judge has to agree."""
+    def assert_run(self, text, number, count, over=0, **fields):
+        """The judge's number, count and excess of a run, and fields of its state; the running judge has to agree."""
         file = written(text)
-        got, rule, accepted, state = judge(file)
-        self.assertEqual((got, rule, accepted), (number, 0, count))
+        got, rule, accepted, excess, state = judge(file)
+        self.assertEqual((got, rule, accepted, excess), (number, 0, count, over))
         self.assertEqual({name: getattr(state, name) for name in fields}, fields)
-        running, numbers = START, [0]
+        running, answers = START, [(0, 0)]
         for four in fours(read(file)[3]):
-            if numbers[-1] == 0:
-                number, _, running = advance(DEFAULT, running, four)
-                numbers.append(number)
-        self.assertEqual((numbers[-1], running), (got, state))
+            if answers[-1] == (0, 0):
+                number, _, excess, running = advance(DEFAULT, running, four)
+                answers.append((number, excess))
+        self.assertEqual((answers[-1], running), ((got, over), state))
 
     def test_k1(self):
         self.assert_run(K1, 0, 12, clock=410, phase=0, box=1, stage=0, request_time=0, failed_phase=0)
@@ -46,22 +46,30 @@ class KnownRuns(unittest.TestCase):
         self.assert_run("", 0, 0, **START._asdict())
 
     def test_k3(self):
-        self.assert_run("1 t6", 12, 1, clock=0, phase=1)
+        self.assert_run("1 t6", 12, 1, over=1, clock=0, phase=1)
         self.assert_run("1 t5", 0, 2, clock=5, phase=1)
 
     def test_k4(self):
-        self.assert_run("1 t5 4 t101", 12, 3, clock=5, phase=1, stage=2)
+        self.assert_run("1 t5 4 t101", 12, 3, over=1, clock=5, phase=1, stage=2)
         self.assert_run("1 t5 4 t100", 0, 4, clock=105)
 
     def test_k5(self):
-        self.assert_run("1 4 7 t150 9", 9, 4, clock=150, phase=1, stage=5)
+        self.assert_run("1 4 7 t150 9", 9, 4, over=1, clock=150, phase=1, stage=5)
 
     def test_k6(self):
         self.assert_run("1 4 7 t151 9", 0, 5, clock=151, phase=2, phase_time=151, stage=1, stage_time=151)
 
     def test_k7(self):
-        self.assert_run("1 4 7 t156", 11, 3, clock=0, phase=1)
+        self.assert_run("1 4 7 t156", 11, 3, over=1, clock=0, phase=1)
         self.assert_run("1 4 7 t155", 0, 4, clock=155, phase=1)
+
+    def test_how_far_over(self):
+        self.assert_run("1 t65535", 12, 1, over=65_530)
+        self.assert_run("t9 1 t2 4 t3 t98", 12, 5, over=1, clock=14)
+        self.assert_run("t9 1 t2 4 t3 t300", 12, 5, over=203, clock=14)
+        self.assert_run("t9 1 t2 4 7 t3 9", 9, 6, over=146, clock=14)
+        self.assert_run("t9 1 t2 4 7 t3 t200", 11, 6, over=50, clock=14)
+        self.assert_run("t9 1 t2 4 7 t3 4", 7, 6, clock=14)
 
     def test_k8(self):
         self.assert_run("2", 8, 0, **START._asdict())
@@ -120,48 +128,74 @@ class Blocks(unittest.TestCase):
         whole = judge(written(K1))
         for place in range(0, len(self.RECORDS) + 1, 4):
             first = block(DEFAULT, START, self.RECORDS[:place])
-            self.assertEqual(first[:3], (0, 0, place // 4))
-            second = block(DEFAULT, first[3], self.RECORDS[place:])
-            self.assertEqual((*second[:2], first[2] + second[2], second[3]), whole)
+            self.assertEqual(first[:4], (0, 0, place // 4, 0))
+            second = block(DEFAULT, first[4], self.RECORDS[place:])
+            self.assertEqual((*second[:2], first[2] + second[2], *second[3:]), whole)
 
     def test_what_is_left_over(self):
         for left in range(4):
             for byte in b"\x01\xff":
                 self.assertEqual(block(DEFAULT, START, self.RECORDS + bytes((byte,)) * left), judge(written(K1)))
-                self.assertEqual(block(DEFAULT, START, bytes((byte,)) * left), (0, 0, 0, START))
+                self.assertEqual(block(DEFAULT, START, bytes((byte,)) * left), (0, 0, 0, 0, START))
 
-    def test_the_state_before_the_refused_record(self):
-        for text, number, count in (("13 1", 7, 0), ("1 t6 4", 12, 1), ("1 t5 4 t101", 12, 3)):
+    def test_the_state_before_the_refused_record_and_its_excess(self):
+        for text, number, count, excess in (
+            ("13 1", 7, 0, 0), ("1 t6 4", 12, 1, 1), ("1 t5 4 t101", 12, 3, 1), ("1 4 7 t150 9", 9, 4, 1),
+            ("1 4 7 t156", 11, 3, 1), ("t7 1 t2 4 t1 t400 4", 12, 5, 301),
+        ):
             *_, state = judge(written(" ".join(text.split()[:count])))
-            self.assertEqual(block(DEFAULT, START, written(text)[12:]), (number, 0, count, state))
+            self.assertEqual(block(DEFAULT, START, written(text)[12:]), (number, 0, count, excess, state))
+
+    def test_excesses_on_given_states(self):
+        ahead = State(phase=1, stage=5, phase_time=2**32 - 1)
+        given = [
+            (ahead, "9", (9, 0, 0, 2**32 + 150, ahead)),
+            (ahead, "t3 t4 9 9", (9, 0, 2, 2**32 + 143, ahead._replace(clock=7))),
+            (State(clock=151, phase=1, stage=3), "8", (10, 0, 0, 1, State(clock=151, phase=1, stage=3))),
+            (State(clock=2**32 - 9), "t8 t9", (13, 0, 1, 9, State(clock=2**32 - 1))),
+        ]
+        for state, text, answer in given:
+            self.assertEqual(block(DEFAULT, state, written(text)[12:]), answer)
 
     def test_a_table_that_is_not_admitted(self):
         table, unlisted = DEFAULT._replace(ChangeDL=1404), State(box=2)
         for records in (b"", b"\xff" * 3):
-            self.assertEqual(block(table, unlisted, records), (0, 0, 0, unlisted))
+            self.assertEqual(block(table, unlisted, records), (0, 0, 0, 0, unlisted))
         for records in (b"\xff" * 4, self.RECORDS):
-            self.assertEqual(block(table, unlisted, records), (4, 14, 0, unlisted))
+            self.assertEqual(block(table, unlisted, records), (4, 14, 0, 0, unlisted))
 
     def test_a_state_that_is_not_listed(self):
         for state in (State(phase=24), State(stage=6), State(box=2)):
             for records, number in ((b"", 0), (self.RECORDS, 7), (b"\xff" * 8, 5), (b"\x01\1\0\0", 6)):
-                self.assertEqual(block(DEFAULT, state, records), (number, 0, 0, state))
+                self.assertEqual(block(DEFAULT, state, records), (number, 0, 0, 0, state))
 
 
 class Lines(unittest.TestCase):
     def test_samples(self):
         self.assertEqual(len(written(K1)), 60)
-        self.assertEqual(line(written(K1)), b"accepted 12 0 410 0 1\n")
-        self.assertEqual(line(written("1 4 7 t150 9")), b"refused 4 9 150 1 0\n")
-        self.assertEqual(line(written(WOULD_NOT_CLOSE)), b"accepted 14 0 151 23 1\n")
-        self.assertEqual(line(written(f"{WOULD_NOT_CLOSE} 13")), b"accepted 15 0 151 0 1\n")
-        self.assertEqual(line(b""), b"unread 0 1 0 0 0\n")
+        self.assertEqual(line(written(K1)), b"accepted 12 0 410 0 1 0\n")
+        self.assertEqual(line(written("1 4 7 t150 9")), b"refused 4 9 150 1 0 1\n")
+        self.assertEqual(line(written(WOULD_NOT_CLOSE)), b"accepted 14 0 151 23 1 0\n")
+        self.assertEqual(line(written(f"{WOULD_NOT_CLOSE} 13")), b"accepted 15 0 151 0 1 0\n")
+        self.assertEqual(line(b""), b"unread 0 1 0 0 0 0\n")
+
+    def test_the_seventh_field(self):
+        self.assertEqual(line(written("1 t6")), b"refused 1 12 0 1 0 1\n")
+        self.assertEqual(line(written("1 t5 4 t101")), b"refused 3 12 5 1 0 1\n")
+        self.assertEqual(line(written("1 4 7 t156")), b"refused 3 11 0 1 0 1\n")
+        self.assertEqual(line(written(f"{K1} 3 t65535")), b"refused 13 12 410 17 1 65530\n")
+        self.assertEqual(line(written(f"{K1} 3 4 7 9")), b"refused 15 9 410 17 1 251\n")
+        self.assertEqual(line(written("1 1")), b"refused 1 7 0 1 0 0\n")
+        self.assertEqual(line(written("2")), b"refused 0 8 0 0 0 0\n")
+        self.assertEqual(line(written("t9")[:-4] + bytes(4)), b"refused 0 5 0 0 0 0\n")
+        broken = written("1 t6", DEFAULT)
+        self.assertEqual(line(broken[:46] + bytes(2) + broken[48:]), b"unread 0 4 0 0 0 0\n")
 
     def test_room(self):
-        file, text = written(K1), b"accepted 12 0 410 0 1\n"
-        self.assertEqual(lay_line(file, b"x" * 21), (15, 0, b"x" * 21))
-        self.assertEqual(lay_line(file, b"x" * 22), (0, 22, text))
-        self.assertEqual(lay_line(file, b"x" * 24), (0, 22, text + b"xx"))
+        file, text = written(K1), b"accepted 12 0 410 0 1 0\n"
+        self.assertEqual(lay_line(file, b"x" * 23), (15, 0, b"x" * 23))
+        self.assertEqual(lay_line(file, b"x" * 24), (0, 24, text))
+        self.assertEqual(lay_line(file, b"x" * 26), (0, 24, text + b"xx"))
 
 
 class Reading(unittest.TestCase):
@@ -190,7 +224,7 @@ class Reading(unittest.TestCase):
         self.assertEqual(read(file), (0, 0, table, written(K1)[12:]))
         rule_14 = file[:46] + (1404).to_bytes(2, "little") + file[48:]
         self.assertEqual(read(rule_14), (4, 14, DEFAULT._replace(ChangeDL=1404), b""))
-        self.assertEqual(judge(rule_14), (4, 14, 0, START))
+        self.assertEqual(judge(rule_14), (4, 14, 0, 0, START))
         self.assertEqual(read(rule_14[:48])[:3], (3, 0, DEFAULT._replace(ChangeDL=1404)))
         self.assertEqual(read(rule_14[:47])[:3], (3, 0, DEFAULT))
 
@@ -282,20 +316,25 @@ class Corpus(unittest.TestCase):
     def test_lines(self):
         lines = [
             (case_of("admit", DEFAULT), "admit 0"),
-            (case_of("advance", DEFAULT, START, b"\x02\0\0\0"), "advance 8 0 0 0 0 0 0 0 0 0"),
+            (case_of("step", DEFAULT, State(phase=1, phase_time=2**32 - 1, stage=5), 9, 0),
+             "step 9 0 4294967446 0 0 1 4294967295 5 0 0 0"),
+            (case_of("advance", DEFAULT, START, b"\x02\0\0\0"), "advance 8 0 0 0 0 0 0 0 0 0 0"),
             (case_of("read", b""), f"read 1 0 {' '.join(map(str, DEFAULT))} -"),
-            (case_of("judge", written("1 t5")), "judge 0 0 2 5 0 1 0 1 0 0 0"),
+            (case_of("judge", written("1 t5")), "judge 0 0 2 0 5 0 1 0 1 0 0 0"),
+            (case_of("judge", written("1 t5 t7")), "judge 12 0 2 7 5 0 1 0 1 0 0 0"),
             (case_of("line", b"", b"\xab"), "line 15 0 ab"),
             (case_of("join", 0, 0, b"\x01", b"\xff\xff"), "join 0 1 01ff"),
             (case_of("write", 0, DEFAULT, [], b"", b""), "write 15 0 0 0 -"),
-            (case_of("manual", DEFAULT, b""), f"manual 0 0 0 01{'00' * 63}{' 0' * 34}{' 0' * 7} 0 0 0{' 0' * 8}"),
+            (case_of("manual", DEFAULT, b""), f"manual 0 0 0 0 01{'00' * 63}{' 0' * 34}{' 0' * 7} 0 0 0 0{' 0' * 8}"),
             (case_of("manual", DEFAULT._replace(ChangeDL=1404), b"\x01\0\0\0"),
-             f"manual 4 14 0 01{'00' * 63}{' 0' * 34}{' 0' * 7} 4 14 0{' 0' * 8}"),
+             f"manual 4 14 0 0 01{'00' * 63}{' 0' * 34}{' 0' * 7} 4 14 0 0{' 0' * 8}"),
             (case_of("manual", DEFAULT, b"\x0c\0\x07\0\x01\0\0\0\x0c\0\x02\0\x01\0\0\0"),
-             f"manual 7 0 3 0101{'00' * 62} 9 7{' 0' * 32} 9 0 1 1 7 7 7 7 0 3 9 0 1 7 1 7 7 0"),
+             f"manual 7 0 3 0 0101{'00' * 62} 9 7{' 0' * 32} 9 0 1 1 7 7 7 7 0 3 0 9 0 1 7 1 7 7 0"),
+            (case_of("manual", DEFAULT, b"\x01\0\0\0\x0c\0\x0f\0"),
+             f"manual 12 0 1 10 0101{'00' * 62}{' 0' * 34} 0 0 1 1 0 0 0 12 0 1 10 0 0 1 0 1 0 0 0"),
             (case_of("manual", DEFAULT, b"123"), "bad"),
-            (case_of("block", DEFAULT, START, b"\x01\0\0\0\x0c\0\x05\0\x0c"), "block 0 0 2 5 0 1 0 1 0 0 0"),
-            (case_of("block", DEFAULT, START, b"\x01\0\0\0\x0c\0\x06\0"), "block 12 0 1 0 0 1 0 1 0 0 0"),
+            (case_of("block", DEFAULT, START, b"\x01\0\0\0\x0c\0\x05\0\x0c"), "block 0 0 2 0 5 0 1 0 1 0 0 0"),
+            (case_of("block", DEFAULT, START, b"\x01\0\0\0\x0c\0\x06\0"), "block 12 0 1 1 0 0 1 0 1 0 0 0"),
             (Case(10, bytes(55)), "bad"),
             (Case(10, bytes(56), b"", b"x"), "bad"),
             (Case(1, bytes(35)), "bad"),

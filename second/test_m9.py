@@ -29,8 +29,14 @@ def steps(text):
 
 def ran(text, machine=M9, table=DEFAULT):
     """Number, records accepted and variables of a run."""
-    number, _, accepted, variables = run(machine.step, START, table, packed_steps(steps(text)))
+    number, _, accepted, _, variables = run(machine.step, START, table, packed_steps(steps(text)))
     return number, accepted, variables
+
+
+def over(text, machine=M9):
+    """Number and excess of a run."""
+    number, _, _, excess, _ = run(machine.step, START, DEFAULT, packed_steps(steps(text)))
+    return number, excess
 
 
 def without(event, label):
@@ -210,7 +216,7 @@ class KnownRuns(unittest.TestCase):
         for table, steps_to in walks_through_errors(random.Random(4), good_table):
             variables = START
             for code, amount in steps_to:
-                before, variables = variables, m9.step(table, variables, code, amount)[2]
+                before, variables = variables, m9.step(table, variables, code, amount)[-1]
                 if code == 13:
                     up.update(name for name in BOOLS if before[name])
                     kept = {name: before[name] for name in ("isNeu", *NATURALS)}
@@ -221,7 +227,7 @@ class KnownRuns(unittest.TestCase):
 class Refusals(unittest.TestCase):
     def test_table_then_code_then_amount_then_flags(self):
         broken = DEFAULT._replace(ChangeDL=1404)
-        self.assertEqual(m9.step(broken, START, 99, 99), (4, 14, START))
+        self.assertEqual(m9.step(broken, START, 99, 99), (4, 14, 0, START))
         unread = (0, 9), (14, 0), (8, 1), (8, 0, 1), (12, 0), (13, 1), (13, 0, 1)
         self.assertEqual([m9.step(DEFAULT, START, *given)[0] for given in unread], [5, 5, 6, 6, 6, 6, 6])
         self.assertEqual(m9.step(DEFAULT, START, 13, 0)[0], 7)
@@ -238,6 +244,40 @@ class Refusals(unittest.TestCase):
     def test_too_late_on_variables_that_no_run_reaches(self):
         good = {**START, "RequestFromNeu": True, "Engine_Request_SyncSpeed": True, "Engine_SyncSpeed": True}
         self.assertEqual([m9.step(DEFAULT, {**good, "time": time}, 8, 0)[0] for time in (150, 151)], [0, 10])
+
+    def test_how_far_over(self):
+        for text, *answer in (
+            ("1 t6", 12, 1), ("1 t5 4 t101", 12, 1), ("1 4 7 t150 9", 9, 1), ("1 4 7 t156", 11, 1), ("1 t200", 12, 195),
+            ("1 t5 4 t200", 12, 100), ("t9 1 t2 4 5 t3 t9", 12, 7), ("t9 1 t2 4 7 9", 9, 149),
+            ("t9 1 t2 4 7 t200", 11, 47), (f"{K1} 3 4 7 9", 9, 251), (f"{K1} 2 4 5 8 4 5 8 4 7 t7 9", 9, 144),
+            ("1 4 5 8 4 t400", 12, 100), (K1, 0, 0), ("1 t5", 0, 0), ("1 4 7 t155 9", 0, 0), ("1 1", 7, 0),
+            ("2", 8, 0), ("t9 2", 8, 0),
+        ):
+            self.assertEqual(over(text), tuple(answer))
+
+    def test_the_excess_of_a_guard_as_printed(self):
+        self.assertEqual([over("1 4 7 9", machine) for machine in (M9, without("FromNeu_RequestOpenClutch", "grd4"))],
+                         [(9, 151), (9, 251)])
+
+    def test_excesses_on_variables_that_no_run_reaches(self):
+        late = {**START, "time": LAST_CLOCK, "RequestFromNeu": True}
+        self.assertEqual(m9.step(DEFAULT, late, 12, 9), (13, 0, 9, late))
+        late["time"] -= 1
+        self.assertEqual(m9.step(DEFAULT, late, 12, 1), (12, 0, LAST_CLOCK - 5, late))
+        late.update(Engine_Request_SyncSpeed=True, Engine_WaitForSyncClutch=True)
+        self.assertEqual(m9.step(DEFAULT, late, 12, 1), (11, 0, LAST_CLOCK - 155, late))
+        early = {**late, "time": 0, "RequestFromNeuT": LAST_CLOCK}
+        self.assertEqual(m9.step(DEFAULT, early, 9, 0), (9, 0, LAST_CLOCK + 151, early))
+        asked = {**START, "time": 170, "RequestFromNeu": True, "Engine_Request_SyncSpeed": True}
+        good = {**asked, "Engine_SyncSpeed": True}
+        self.assertEqual(m9.step(DEFAULT, good, 8, 0), (10, 0, 20, good))
+
+    def test_a_tick_gets_the_excess_of_the_first_guard_of_its_number(self):
+        asked = {**START, "time": 300, "RequestFromNeu": True, "FromNeu_RequestOpenClutch": True,
+                 "FromNeu_RequestOpenClutchT": 90}
+        passed = {deadline.label: excess for deadline, excess in M9.excesses(DEFAULT, asked, 1)}
+        self.assertEqual(passed, {"grd3": 11, "grd23": 296, "grd29": 206})
+        self.assertEqual(m9.step(DEFAULT, asked, 12, 1), (12, 0, 296, asked))
 
     def test_what_is_refused_changes_nothing(self):
         for text in ("1 4 7 t150 9", "1 t6", "2", "1 1"):
@@ -258,7 +298,7 @@ class Places(unittest.TestCase):
             for way in led:
                 table = good_table(chance)
                 records = packed_steps(timed(table, way, mixed(chance)))
-                number, _, _, variables = run(m9.step, START, table, records)
+                number, *_, variables = run(m9.step, START, table, records)
                 self.assertEqual((number, place_of(variables)), (0, place))
                 flags.add(m9.flags(variables))
             self.assertEqual(len(flags), 1)
@@ -294,10 +334,10 @@ class TheSearch(unittest.TestCase):
 
 class BesideTheRules(unittest.TestCase):
     def assert_same(self, table, variables, state, *given):
-        """A step has the same number and rule in both engines, and leads to the same in our terms."""
-        number, rule, variables = m9.step(table, variables, *given)
-        self.assertEqual((number, rule), rules.step(table, state, *given)[:2])
-        state = rules.step(table, state, *given)[2]
+        """A step has the same number, rule and excess in both engines, and leads to the same in our terms."""
+        *answer, variables = m9.step(table, variables, *given)
+        *ours, state = rules.step(table, state, *given)
+        self.assertEqual(answer, ours)
         read = reading(variables)
         self.assertEqual(read[:4], (state.clock, state.box, state.phase, state.stage))
         if state.stage:
@@ -344,4 +384,4 @@ class BesideTheRules(unittest.TestCase):
                 for given in timed(DEFAULT, lead(chance, request) + shift, mixed(chance)):
                     for events in M9.events.values():
                         self.assertLessEqual(sum(event.flags.met(variables) for event in events), 1)
-                    variables = m9.step(DEFAULT, variables, *given)[2]
+                    *_, variables = m9.step(DEFAULT, variables, *given)

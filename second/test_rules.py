@@ -3,7 +3,8 @@
 import unittest
 
 from rules import (
-    DEFAULT, ENGINE_PHASES, LAST_CLOCK, ORDERS, PHASES, START, State, Table, broken_rule, route_sums, step,
+    DEFAULT, ENGINE_PHASES, LAST_CLOCK, ORDERS, PHASES, START, State, Table, broken_rule, latest_clocks, route_sums,
+    step,
 )
 
 
@@ -62,20 +63,22 @@ class ThePhases(unittest.TestCase):
 
 class SingleSteps(unittest.TestCase):
     def number(self, state, code, amount=0, table=DEFAULT):
-        """The number of a step; one that is refused has to hand its state back."""
-        number, _, after = step(table, state, code, amount)
+        """The number of a step; one that is refused has to hand its state back, and only 9 to 13 have an excess."""
+        number, _, excess, after = step(table, state, code, amount)
         self.assertTrue(number == 0 or after == state)
+        self.assertTrue(excess > 0 if number in range(9, 14) else excess == 0)
         return number
 
     def test_k13(self):
         good = State(phase=1, stage=3)
         self.assertEqual(self.number(good._replace(clock=150), 8), 0)
         self.assertEqual(self.number(good._replace(clock=151), 8), 10)
+        self.assertEqual(step(DEFAULT, good._replace(clock=151), 8, 0)[2], 1)
 
     def test_table_comes_first_and_gives_its_rule(self):
         broken = DEFAULT._replace(ChangeDL=1404)
         wild = State(phase=99)
-        self.assertEqual(step(broken, wild, 99, 99), (4, 14, wild))
+        self.assertEqual(step(broken, wild, 99, 99), (4, 14, 0, wild))
 
     def test_code_comes_before_amount_and_amount_before_state(self):
         wild = State(phase=99)
@@ -108,10 +111,10 @@ class SingleSteps(unittest.TestCase):
     def test_error_can_be_raised_in_an_engine_phase(self):
         failed = State(clock=9, phase=1, stage=4, request_time=2)
         after = State(clock=9, phase=23, phase_time=9, stage_time=9, request_time=2, failed_phase=1)
-        self.assertEqual(step(DEFAULT, failed, 10, 0), (0, 0, after))
+        self.assertEqual(step(DEFAULT, failed, 10, 0), (0, 0, 0, after))
 
     def test_taking_set_makes_the_box_in_gear_and_taking_release_neutral(self):
-        boxes = {phase: [step(DEFAULT, State(phase=phase, stage=3, box=box), 8, 0)[2].box for box in (0, 1)]
+        boxes = {phase: [step(DEFAULT, State(phase=phase, stage=3, box=box), 8, 0)[-1].box for box in (0, 1)]
                  for phase in PHASES}
         moved = {phase: after for phase, after in boxes.items() if after != [0, 1]}
         self.assertEqual(moved, {3: [1, 1], 4: [1, 1], 8: [0, 0], 9: [0, 0], 12: [1, 1], 13: [1, 1], 14: [1, 1],
@@ -124,19 +127,20 @@ class SingleSteps(unittest.TestCase):
         for code, phase, stage in steps + [(11, 22, 0), (12, 0, 0), (12, 3, 1), (12, 23, 0), (13, 23, 0)]:
             for box in (0, 1):
                 state = State(clock=251, phase=phase, phase_time=0 if code == 9 else 251, stage=stage, stage_time=251)
-                number, _, after = step(DEFAULT, state._replace(box=box), code, int(code == 12))
+                number, *_, after = step(DEFAULT, state._replace(box=box), code, int(code == 12))
                 self.assertEqual((number, after.box), (0, box))
         for code, box in ((1, 0), (2, 1), (3, 1)):
-            self.assertEqual(step(DEFAULT, State(box=box), code, 0)[2].box, box)
+            self.assertEqual(step(DEFAULT, State(box=box), code, 0)[-1].box, box)
 
     def test_finish_clears_request_time_and_failed_phase(self):
         done = State(clock=7, box=1, phase=22, phase_time=5, stage_time=5, request_time=3, failed_phase=9)
-        self.assertEqual(step(DEFAULT, done, 11, 0), (0, 0, State(clock=7, box=1, phase_time=7, stage_time=7)))
+        self.assertEqual(step(DEFAULT, done, 11, 0), (0, 0, 0, State(clock=7, box=1, phase_time=7, stage_time=7)))
 
     def test_reset_enters_0_and_keeps_the_box(self):
         for box in (0, 1):
             error = State(7, box, 23, phase_time=5, stage=2, stage_time=4, request_time=3, failed_phase=9)
-            self.assertEqual(step(DEFAULT, error, 13, 0), (0, 0, State(clock=7, box=box, phase_time=7, stage_time=7)))
+            at_rest = State(clock=7, box=box, phase_time=7, stage_time=7)
+            self.assertEqual(step(DEFAULT, error, 13, 0), (0, 0, 0, at_rest))
 
     def test_reset_in_error_alone(self):
         others = [State(phase=phase, stage=stage) for phase in range(23) for stage in range(6)]
@@ -158,3 +162,68 @@ class SingleSteps(unittest.TestCase):
 
     def test_time_runs_freely_at_rest_in_done_and_in_error(self):
         self.assertEqual([self.number(State(phase=phase, stage=2), 12, 65_535) for phase in (0, 22, 23)], [0, 0, 0])
+
+
+class HowFarOver(unittest.TestCase):
+    def assert_over(self, number, excess, code, amount=0, table=DEFAULT, **fields):
+        """A step on the state of these fields is refused with this number, by so much."""
+        state = State(**fields)
+        self.assertEqual(step(table, state, code, amount), (number, 0, excess, state))
+
+    def test_too_early(self):
+        for clock, phase, excess in ((0, 1, 151), (150, 1, 1), (0, 10, 151), (0, 6, 251), (250, 17, 1)):
+            self.assert_over(9, excess, 9, clock=clock, phase=phase, stage=5)
+        self.assert_over(9, 120, 9, clock=1_040, phase=1, phase_time=1_009, stage=5, stage_time=1_030)
+
+    def test_too_late(self):
+        for clock, phase, excess in ((151, 1, 1), (160, 10, 10), (251, 6, 1), (LAST_CLOCK, 17, LAST_CLOCK - 250)):
+            self.assert_over(10, excess, 8, clock=clock, phase=phase, stage=3)
+
+    def test_past_the_phase_limit(self):
+        self.assert_over(11, 1, 12, 156, phase=1, stage=5)
+        self.assert_over(11, 65_535 - 155, 12, 65_535, phase=1, stage=5)
+        self.assert_over(11, 3, 12, 200, clock=7, phase=7, phase_time=4, stage=0)
+        self.assert_over(11, 2, 12, 4, clock=199, phase=16, phase_time=1, stage=3, stage_time=198)
+
+    def test_past_the_channel_s_or_the_device_s_limit(self):
+        self.assert_over(12, 1, 12, 6, phase=1, stage=1)
+        self.assert_over(12, 1, 12, 101, phase=1, stage=2)
+        self.assert_over(12, 9, 12, 11, clock=5, phase=3, phase_time=2, stage=3, stage_time=2)
+        self.assert_over(12, 4, 12, 302, clock=7, phase=4, phase_time=1, stage=2, stage_time=5)
+
+    def test_past_both_limits(self):
+        self.assert_over(12, 195, 12, 200, phase=1, stage=1)
+        self.assert_over(12, 1, 12, 6, clock=400, phase=1, stage=3, stage_time=400)
+        self.assert_over(12, 100, 12, 200, clock=100, phase=2, stage=2, stage_time=50)
+
+    def test_past_the_last_clock(self):
+        self.assert_over(13, 1, 12, 1, clock=LAST_CLOCK)
+        self.assert_over(13, 65_535, 12, 65_535, clock=LAST_CLOCK)
+        self.assert_over(13, 2, 12, 65_535, clock=LAST_CLOCK - 65_533, phase=22)
+        self.assert_over(13, 7, 12, 9, clock=LAST_CLOCK - 2, phase=1, stage=1)
+
+    def test_it_does_not_wrap(self):
+        self.assert_over(9, LAST_CLOCK + 151, 9, clock=0, phase=1, phase_time=LAST_CLOCK, stage=5)
+        slow = DEFAULT._replace(Zero_DE=60_000, Zero_DL=60_000, ChangeDL=65_535)
+        self.assert_over(9, LAST_CLOCK + 60_000, 9, table=slow, phase=17, phase_time=LAST_CLOCK, stage=5)
+        self.assert_over(12, LAST_CLOCK - 5, 12, 1, clock=LAST_CLOCK - 1, phase=1, stage=1)
+        self.assert_over(11, LAST_CLOCK - 155, 12, 1, clock=LAST_CLOCK - 1, phase=1, stage=0)
+
+    def test_no_other_answer_has_one(self):
+        early = State(phase=1, stage=5, phase_time=LAST_CLOCK)
+        for given, number in (
+            ((DEFAULT._replace(ChangeDL=1404), early, 9, 0), 4), ((DEFAULT, early, 14, 0), 5),
+            ((DEFAULT, early, 9, 1), 6), ((DEFAULT, early, 12, 65_536), 6),
+            ((DEFAULT, early._replace(stage=4), 9, 0), 7), ((DEFAULT, State(phase=24, clock=LAST_CLOCK), 12, 9), 7),
+            ((DEFAULT, START._replace(clock=9), 2, 0), 8), ((DEFAULT, START, 12, 65_535), 0),
+            ((DEFAULT, State(phase=1, clock=152, stage=5), 9, 0), 0),
+        ):
+            got, _, excess, _ = step(*given)
+            self.assertEqual((got, excess), (number, 0))
+
+    def test_each_limit_passed_by_one_and_by_more(self):
+        for phase in PHASES:
+            for stage, number in ((1, 12), (2, 12), (3, 12), (0, 11), (4, 11), (5, 11)):
+                latest = dict(latest_clocks(DEFAULT, State(phase=phase, stage=stage), 12))[number]
+                for excess in (1, 2, 60_000):
+                    self.assert_over(number, excess, 12, latest + excess, phase=phase, stage=stage)

@@ -95,9 +95,9 @@ class TheOldBox(unittest.TestCase):
         for table, walk in [(table, any_walk(chance, table)) for table in (good_table(chance) for _ in range(200))]:
             before, now = old.START, rules.START
             for given in takewhile(lambda step: step[0] != rules.RESET, walk):
-                (old_number, before), (number, now) = (each.admitted_step(table, state, *given)
-                                                       for each, state in ((old, before), (rules, now)))
-                self.assertEqual((old_number, before._replace(box=0)), (number, now._replace(box=0)))
+                (*old_answer, before), (*answer, now) = (each.admitted_step(table, state, *given)
+                                                         for each, state in ((old, before), (rules, now)))
+                self.assertEqual((old_answer, before._replace(box=0)), (answer, now._replace(box=0)))
                 (compared if before.box == now.box else differing).add(now.phase)
         self.assertEqual(compared | differing, set(range(24)))
         self.assertEqual(differing, {5, 10, 11, 12, 13, 14, 21, 23})

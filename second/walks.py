@@ -1,16 +1,20 @@
 """Walks: lists of steps, each a code and an amount, from the start through every way of a shift."""
 
 from functools import lru_cache
+from itertools import product
 
 from rules import (
     ASK_CLUTCH, DEFAULT, DELIVER, DEVICE_FAILED, DEVICE_GOOD, DONE, ENGINE_WAITS, FINISH, FROM_NEUTRAL, GEAR_TO_GEAR,
-    IN_GEAR, LONGEST_TICK, NEUTRAL, PHASES, RAISE_ERROR, REQUESTS, RESET, START, TAKE, TICK, TO_NEUTRAL, WAITING,
-    admitted_step, earliest_clock, latest_clocks,
+    IN_GEAR, LONGEST_TICK, NEUTRAL, PAST_PHASE_LIMIT, PAST_STAGE_LIMIT, PHASES, RAISE_ERROR, REQUESTS, RESET, START,
+    TAKE, TICK, TO_NEUTRAL, TOO_EARLY, WAITING, admitted_step, earliest_clock, latest_clocks,
 )
 from search import NotFound
 
 # No shift is begun on a walk that has so many codes.
 LONG_WALK = 1_000
+
+# A table under which asking for the clutch can be early by five digits.
+SLOW = DEFAULT._replace(Sync_DE=12_000, Sync_DL=13_000, Zero_DE=14_000, Zero_DL=15_000, ChangeDL=20_000)
 
 
 def ways(phase, passed=()):
@@ -79,7 +83,7 @@ def timed(table, codes, pace):
         pause = pace(least, most)
         for step in [(TICK, pause), (code, 0)] if pause else [(code, 0)]:
             steps.append(step)
-            number, state = admitted_step(table, state, *step)
+            number, _, state = admitted_step(table, state, *step)
             if number:
                 raise NotFound(f"not found: a walk of {codes}; {step} gives {number} on {state} under {table}")
     return steps
@@ -98,22 +102,46 @@ def states(table, steps):
     """The states of a walk: the start state, and the one after each step."""
     found = [START]
     for step in steps:
-        _, state = admitted_step(table, found[-1], *step)
+        *_, state = admitted_step(table, found[-1], *step)
         found.append(state)
     return found
 
 
+def steps_over(table, state, number, excess):
+    """Steps on a state, the last of them over the limit of this refusal by so much; None where no tick leads there."""
+    if number == TOO_EARLY:
+        amount, last = earliest_clock(table, state, ASK_CLUTCH) - excess - state.clock, [(ASK_CLUTCH, 0)]
+    else:
+        amount, last = dict(latest_clocks(table, state, TICK))[number] + excess - state.clock, []
+    return [(TICK, amount), *last] if 1 <= amount <= LONGEST_TICK else None
+
+
 def edges(table, state):
     """Steps that just keep a limit of the state, and steps that pass it by one."""
-    for _, latest in latest_clocks(table, state, TICK):
-        for amount in (latest - state.clock, latest - state.clock + 1):
-            if 1 <= amount <= LONGEST_TICK:
-                yield [(TICK, amount)]
+    numbers = [number for number, _ in latest_clocks(table, state, TICK)]
     if state.stage == WAITING:
-        least, _ = pause_before(table, state, ASK_CLUTCH)
-        for amount in (least, least - 1):
-            if amount >= 1:
-                yield [(TICK, amount), (ASK_CLUTCH, 0)]
+        numbers.append(TOO_EARLY)
+    for number, excess in product(numbers, (0, 1)):
+        steps = steps_over(table, state, number, excess)
+        if steps:
+            yield steps
+
+
+# The ways into an engine's order on which a walk gets a refusal.
+WAYS_OVER = {
+    TOO_EARLY: [(DELIVER, ENGINE_WAITS)],
+    PAST_PHASE_LIMIT: [(DELIVER, ENGINE_WAITS)],
+    PAST_STAGE_LIMIT: [(), (DELIVER,), (DELIVER, DEVICE_GOOD)],
+}
+
+
+def walks_over(chance):
+    """Walks that are refused with 9, 11 and 12 by excesses of one to five digits, under the table SLOW."""
+    for number, digits in product(WAYS_OVER, range(1, 6)):
+        request = chance.choice(tuple(REQUESTS))
+        steps = timed(SLOW, (*lead(chance, request), request, *chance.choice(WAYS_OVER[number])), min)
+        excess = chance.randint(10 ** (digits - 1), min(10 ** digits, SLOW.Sync_DE) - 1)
+        yield steps + steps_over(SLOW, states(SLOW, steps)[-1], number, excess)
 
 
 def walks_through_errors(chance, any_table):

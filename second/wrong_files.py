@@ -61,29 +61,29 @@ READER = [
 
 JUDGED = "admitted_step(table, state, *record(four))"
 PLACES = "range(0, len(records), RECORD.size)"
-VERDICT, ADVANCED = "return number, rule, accepted, state", "return step(table, state, *record(four))"
+VERDICT, ADVANCED = "return number, rule, accepted, excess, state", "return step(table, state, *record(four))"
 REFUSED = "        if number:\n            return\n"
 
 JUDGE = [
     ("the refused record counts as accepted", "accepted += number == 0", "accepted += 1"),
     ("the header's count for that of records accepted", VERDICT,
-     "return number, rule, len(records) // RECORD.size, state"),
-    ("the start state with every refusal", VERDICT, "return number, rule, accepted, START if number else state"),
+     "return number, rule, len(records) // RECORD.size, excess, state"),
+    ("the start state with every refusal", VERDICT, VERDICT.replace("state", "START if number else state")),
     ("the first record is left out", PLACES, "range(RECORD.size, len(records), RECORD.size)"),
     ("the last record is left out", PLACES, "range(0, len(records) - RECORD.size, RECORD.size)"),
     ("judging goes on after a refusal", REFUSED, ""),
     ("judging by the default table", JUDGED, "admitted_step(DEFAULT, state, *record(four))"),
     ("judging from the box in gear", "    state = START\n", "    state = START._replace(box=1)\n"),
-    ("only the first record is judged", JUDGED, f"{JUDGED} if state == START else (0, state)"),
+    ("only the first record is judged", JUDGED, f"{JUDGED} if state == START else (0, 0, state)"),
     ("judging ends at a reset", REFUSED, REFUSED.replace(":", " or four[0] == 13:")),
-    ("a reset is no record of a file", JUDGED, f"(5, state) if four[0] == 13 else {JUDGED}"),
-    ("a reset in a file begins anew", JUDGED, f"(0, START) if four[0] == 13 and state.phase == 23 else {JUDGED}"),
+    ("a reset is no record of a file", JUDGED, f"(5, 0, state) if four[0] == 13 else {JUDGED}"),
+    ("a reset in a file begins anew", JUDGED, f"(0, 0, START) if four[0] == 13 and state.phase == 23 else {JUDGED}"),
     ("a reset is not counted as accepted", "accepted += number == 0",
      "accepted += number == 0 and (state.phase, state.phase_time) != (0, state.clock)"),
     ("the running judge knows no reset", ADVANCED,
-     ADVANCED.replace("return", "return (5, 0, state) if four[0] == 13 else")),
+     ADVANCED.replace("return", "return (5, 0, 0, state) if four[0] == 13 else")),
     ("the running judge leaves the middle byte out", ADVANCED, "return step(table, state, *record(four)[:2])"),
-    ("the running judge admits any table", ADVANCED, f"number, state = {JUDGED}\n    return number, 0, state"),
+    ("the running judge admits any table", ADVANCED, f"number, *rest = {JUDGED}\n    return number, 0, *rest"),
 ]
 
 # The block call: its records, its number and rule, its count and its state.
@@ -95,7 +95,7 @@ LISTED_NUMBERS = {"phase": 24, "stage": 6, "box": 2}
 
 def block_first(condition, answer):
     """A block that is answered so before a record is judged."""
-    return f"    if {condition}:\n        return {answer}, 0, state\n{BLOCK}"
+    return f"    if {condition}:\n        return {answer}, 0, 0, state\n{BLOCK}"
 
 
 def block_by(engine):
@@ -105,7 +105,7 @@ def block_by(engine):
 
 def block_gives(answer, begin="state"):
     """A block that begins on this and gives this answer."""
-    return f"    number, rule, accepted, reached = run(step, {begin}, table, whole)\n    return {answer}\n"
+    return f"    number, rule, accepted, excess, reached = run(step, {begin}, table, whole)\n    return {answer}\n"
 
 
 def off_listing():
@@ -117,7 +117,7 @@ def off_listing():
         yield (f"7 for an empty block and a {field} that is not listed", BLOCK,
                block_first(f"not whole and {not_listed}", "7, 0"))
         yield (f"a block's first record on a {field} that is not listed", BLOCK,
-               block_gives("number, rule, accepted, reached if accepted else state",
+               block_gives("number, rule, accepted, excess, reached if accepted else state",
                            f"state._replace({field}=min(state.{field}, {count - 1}))"))
 
 
@@ -139,38 +139,38 @@ BLOCKS = [
      block_by(f"step(DEFAULT if {RULE} else table, state, code, amount, middle)")),
     ("a block leaves the middle byte out", BLOCK, block_by("step(table, state, code, amount)")),
     ("a block knows no reset", BLOCK,
-     block_by("(5, 0, state) if code == 13 else step(table, state, code, amount, middle)")),
+     block_by("(5, 0, 0, state) if code == 13 else step(table, state, code, amount, middle)")),
     ("4 for an empty block", BLOCK, block_first(RULE, f"NOT_ADMITTED, {RULE}")),
     ("4 for a block of bytes left over alone", BLOCK, block_first(f"records and {RULE}", f"NOT_ADMITTED, {RULE}")),
     ("no 4 for a block of one record", BLOCK, block_first(f"len(whole) == RECORD.size and {RULE}", "0, 0")),
     ("4 after 5 and 6 for a block", BLOCK, block_first(f"whole and {NUMBER}", f"{NUMBER}, 0")),
     ("4 after 7 for a block", BLOCK, block_first(f"whole and state.box > 1 and not {NUMBER}", "7, 0")),
-    ("4 without its rule for a block", BLOCK, block_gives("number, 0, accepted, reached")),
+    ("4 without its rule for a block", BLOCK, block_gives("number, 0, accepted, excess, reached")),
     ("the rule is given for an empty block", BLOCK, block_first("not whole", f"0, {RULE}")),
     *off_listing(),
     ("the refused record of a block counts as accepted", BLOCK,
-     block_gives("number, rule, accepted + (number > 0), reached")),
+     block_gives("number, rule, accepted + (number > 0), excess, reached")),
     ("every record of a block counts as accepted", BLOCK,
-     block_gives("number, rule, len(whole) // RECORD.size, reached")),
+     block_gives("number, rule, len(whole) // RECORD.size, excess, reached")),
     ("no record of a refused block counts as accepted", BLOCK,
-     block_gives("number, rule, 0 if number else accepted, reached")),
-    ("a block's count of 8 bits", BLOCK, block_gives("number, rule, accepted % 2**8, reached")),
+     block_gives("number, rule, 0 if number else accepted, excess, reached")),
+    ("a block's count of 8 bits", BLOCK, block_gives("number, rule, accepted % 2**8, excess, reached")),
     ("a refused block leaves the state as it was", BLOCK,
-     block_gives("number, rule, accepted, state if number else reached")),
+     block_gives("number, rule, accepted, excess, state if number else reached")),
     ("a refused block leaves the start state", BLOCK,
-     block_gives("number, rule, accepted, START if number else reached")),
+     block_gives("number, rule, accepted, excess, START if number else reached")),
     ("a block leaves the state after its first record", BLOCK,
-     block_gives("number, rule, accepted, run(step, state, table, whole[:RECORD.size])[3]")),
+     block_gives("number, rule, accepted, excess, run(step, state, table, whole[:RECORD.size])[-1]")),
     ("a refused block leaves the state after the refused record", BLOCK,
      "    from rules import after\n" + block_gives(
-         "number, rule, accepted, after(reached, *record(whole[RECORD.size * accepted:][:RECORD.size])[:2]) "
+         "number, rule, accepted, excess, after(reached, *record(whole[RECORD.size * accepted:][:RECORD.size])[:2]) "
          "if number > 6 else reached")),
 ]
 
 # The line, and a text laid into a buffer.
 
-UNREAD, FEED = "number <= NOT_ADMITTED", "{state.box}\\n"
-READ, JUDGE_FILE = "number, rule, table, records = read(file)", "accepted, state = judge(file)"
+UNREAD, FEED = "number <= NOT_ADMITTED", "{excess}\\n"
+READ, JUDGE_FILE = "number, rule, table, records = read(file)", "accepted, excess, state = judge(file)"
 LAID, NO_ROOM = "return 0, len(text), text + buffer[len(text):]", "return NO_ROOM, 0, buffer"
 DOES_NOT_FIT, LAID_LINE = "if len(text) > len(buffer):", "return laid(line(file), buffer)"
 
@@ -192,9 +192,9 @@ LINE = [
     ("reason in two digits", "{number}", "{number:02}"),
     ("records accepted of 8 bits", "{accepted}", "{accepted % 2**8}"),
     ("clock of 16 bits", "{state.clock}", "{state.clock % 2**16}"),
-    ("no line feed", FEED, "{state.box}"),
+    ("no line feed", FEED, "{excess}"),
     ("two line feeds", FEED, f"{FEED}\\n"),
-    ("a space before the line feed", FEED, "{state.box} \\n"),
+    ("a space before the line feed", FEED, "{excess} \\n"),
     ("two spaces after the word", "{word} ", "{word}  "),
     ("an exact fit is refused", DOES_NOT_FIT, "if len(text) >= len(buffer):"),
     ("one byte short is laid", DOES_NOT_FIT, "if len(text) > len(buffer) + 1:"),
@@ -209,8 +209,8 @@ LINE = [
     ("the length one more", LAID, "return 0, len(text) + 1, text + buffer[len(text):]"),
     ("an input is cut at 65,536 bytes", READ, "number, rule, table, records = read(file[:65_536])"),
     ("an input is cut at 65,535 bytes", READ, "number, rule, table, records = read(file[:65_535])"),
-    ("an input is cut at 65,536 bytes for the line", JUDGE_FILE, "accepted, state = judge(file[:65_536])"),
-    ("an input is cut at 65,535 bytes for the line", JUDGE_FILE, "accepted, state = judge(file[:65_535])"),
+    ("an input is cut at 65,536 bytes for the line", JUDGE_FILE, JUDGE_FILE.replace("file", "file[:65_536]")),
+    ("an input is cut at 65,535 bytes for the line", JUDGE_FILE, JUDGE_FILE.replace("file", "file[:65_535]")),
 ]
 
 # The writer: its bounds, what it writes, and the order 3, 2, 4, first record with 5 or 6, 15.

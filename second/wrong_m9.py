@@ -194,16 +194,18 @@ def off_deadlines():
             yield rewritten(f"{label} with {other}", "Tick_Tock", lines, lines.replace(f" {limit}", f" {other}"))
 
 
+PASSES, PAST = "excess > 0]", "return number, passed[0]"
+
 TICKS = [
     *off_deadlines(),
     ("grd22 gives 12", M9, '<= 22 else', '<= 21 else'),
     ("grd23 gives 11", M9, '<= 22 else', '<= 23 else'),
-    ("11 before 12 by deadlines", M9, "(PAST_STAGE_LIMIT, PAST_PHASE_LIMIT):",
-     "(PAST_PHASE_LIMIT, PAST_STAGE_LIMIT):"),
-    ("equal passes a deadline", M9, "if excess > 0}", "if excess >= 0}"),
-    ("one past keeps a deadline", M9, "if excess > 0}", "if excess > 1}"),
-    ("a refused tick moves the manual's time", M9, "                return number, variables\n",
-     "                return number, done(self.tick_tock.actions, variables, amount)\n"),
+    ("11 before 12 by deadlines", M9, "PAST_STAGE_LIMIT, PAST_PHASE_LIMIT):",
+     "PAST_PHASE_LIMIT, PAST_STAGE_LIMIT):"),
+    ("equal passes a deadline", M9, PASSES, "excess >= 0]"),
+    ("one past keeps a deadline", M9, PASSES, "excess > 1]"),
+    ("a refused tick moves the manual's time", M9, f"{PAST}, variables\n",
+     f"{PAST}, done(self.tick_tock.actions, variables, amount)\n"),
 ]
 
 # Choosing an event, and the order of refusals.
@@ -211,15 +213,15 @@ TICKS = [
 STEPS = [
     ("a code without its last event", M9, "event for event in self.events[code] if",
      "event for event in self.events[code][:-1] if"),
-    ("asking a moment early", M9, "variables[\"time\"]) > 0:", "variables[\"time\"]) > 1:"),
-    ("asking a moment late", M9, "variables[\"time\"]) > 0:", "variables[\"time\"]) >= 0:"),
+    ("asking a moment early", M9, "if excess > 0:", "if excess > 1:"),
+    ("asking a moment late", M9, "if excess > 0:", "if excess >= 0:"),
     ("a wrong box gives 7", M9, "return WRONG_BOX", "return NOT_ALLOWED"),
     ("too early gives 10", M9, "return TOO_EARLY if", "return TOO_LATE if"),
-    ("no event gives 8", M9, "if event else NOT_ALLOWED", "if event else WRONG_BOX"),
+    ("no event gives 8", M9, "if event else (NOT_ALLOWED,", "if event else (WRONG_BOX,"),
     ("a refused event acts", M9, "variables if number else done(event.actions, variables)",
      "done(event.actions, variables) if event else variables"),
-    ("the manual's engine knows no rule", M9, "return NOT_ADMITTED, rule, variables",
-     "return NOT_ADMITTED, 0, variables"),
+    ("the manual's engine knows no rule", M9, "return NOT_ADMITTED, rule, 0, variables",
+     "return NOT_ADMITTED, 0, 0, variables"),
     ("the manual's engine takes any table", M9, "        rule = broken_rule(table)\n", "        rule = 0\n"),
     ("the manual's engine does not look at the middle byte", M9, "unreadable(code, amount, middle)",
      "unreadable(code, amount)"),

@@ -256,14 +256,14 @@ ALLOWED_WHEN = [
     ("reset in done alone", RESET, "RESET: ({DONE}, STAGES)"),
     ("reset at rest", RESET, "RESET: ({AT_REST, ERROR}, STAGES)"),
     ("reset in phases 1 to 21", RESET, "RESET: ({*PHASES, ERROR}, STAGES)"),
-    ("reset in stage failed of phases 1 to 21", "return NOT_ALLOWED",
-     "return 0 if code == RESET and state.phase in PHASES and state.stage == FAILED else NOT_ALLOWED"),
+    ("reset in stage failed of phases 1 to 21", "return NOT_ALLOWED,",
+     "return 0 if code == RESET and state.phase in PHASES and state.stage == FAILED else NOT_ALLOWED,"),
     ("reset everywhere", RESET, "RESET: (range(ERROR + 1), STAGES)"),
     ("reset in phase 24", RESET, "RESET: ({ERROR, ERROR + 1}, STAGES)"),
     ("reset nowhere", RESET, "RESET: ((), STAGES)"),
     ("no reset with the box neutral", UNLISTED_BOX, f"{UNLISTED_BOX} or code == RESET and state.box == NEUTRAL"),
     ("no reset with the box in gear", UNLISTED_BOX, f"{UNLISTED_BOX} or code == RESET and state.box == IN_GEAR"),
-    ("a reset with a wrong box gives 8", WRONG_BOX, "if code == RESET and state.box:\n        return WRONG_BOX\n    "
+    ("a reset with a wrong box gives 8", WRONG_BOX, "if code == RESET and state.box:\n        return WRONG_BOX, 0\n    "
      f"{WRONG_BOX}"),
     ("a tick in phase 24", "range(ERROR + 1)", "range(ERROR + 2)"),
     ("no tick in error", "range(ERROR + 1)", "range(ERROR)"),
@@ -273,7 +273,7 @@ ALLOWED_WHEN = [
     ("a failed phase above 23 is refused", UNLISTED_BOX, f"{UNLISTED_BOX} or state.failed_phase > ERROR"),
 ]
 
-PASSED, EARLY = "if clock > latest", "if clock < earliest_clock(table, state, code)"
+PASSED, EARLY = "in found if excess > 0", "[(TOO_EARLY, earliest_clock(table, state, code) - clock)]"
 EX, HAS_EX = "state.phase_time + getattr(table, order.expiry)", "if code == TAKE and order.expiry:"
 DE = "state.phase_time + getattr(table, PHASES[state.phase].order.earliest)"
 CHANNEL, CHANNEL_STAGES = "state.stage_time + table.Channel_DL", "(SENT, GOOD)"
@@ -281,8 +281,8 @@ DEVICE, DEVICE_STAGE = "state.stage_time + getattr(table, order.device_limit)", 
 PHASE, ADD_PHASE = "state.phase_time + getattr(table, order.phase_limit)", "        latest.append((PAST_PHASE_LIMIT"
 
 LIMITS = [
-    ("equal is passed", PASSED, "if clock >= latest"),
-    ("one past is kept", PASSED, "if clock > latest + 1"),
+    ("equal is passed", PASSED, "in found if excess >= 0"),
+    ("one past is kept", PASSED, "in found if excess > 1"),
     ("EX one more", EX, f"{EX} + 1"),
     ("EX one less", EX, f"{EX} - 1"),
     ("EX from the stage time", EX, EX.replace("phase_time", "stage_time")),
@@ -295,7 +295,7 @@ LIMITS = [
     ("DE from the stage time", DE, DE.replace("phase_time", "stage_time")),
     ("DE from the request time", DE, DE.replace("phase_time", "request_time")),
     ("DE wraps at 32 bits", DE, f"({DE}) % 2**32"),
-    ("no DE", EARLY, "if False"),
+    ("no DE", EARLY, "[]"),
     ("the clock up to 4,294,967,294", "(PAST_CLOCK, LAST_CLOCK)", "(PAST_CLOCK, LAST_CLOCK - 1)"),
     ("the clock up to 4,294,967,296", "(PAST_CLOCK, LAST_CLOCK)", "(PAST_CLOCK, LAST_CLOCK + 1)"),
     ("the clock without an end", "(PAST_CLOCK, LAST_CLOCK)", "(PAST_CLOCK, 2**64)"),
@@ -331,7 +331,7 @@ NEXT, CLUTCH = "PHASES[state.phase].when_taken", "PHASES[state.phase].when_asked
 TAKEN_BOX, BY_ORDER = "BOX_WHEN_TAKEN.get(PHASES[state.phase].order, state.box)", "{SET: IN_GEAR, RELEASE: NEUTRAL}"
 TAKING, ERRING = "enter(state._replace(box=box_when_taken(state)), ", "enter(state, ERROR)"
 ENDING, RESTING = "    if code in (FINISH, RESET):\n", "enter(state, AT_REST)"
-AFTER = "return number, state if number else after(state, code, amount)"
+AFTER = "state if number else after(state, code, amount)"
 
 EFFECTS = [
     ("a request keeps the request time", "enter(state._replace(request_time=state.clock), ", "enter(state, "),
@@ -355,7 +355,7 @@ EFFECTS = [
     ("a tick moves the clock one too far", TICKED, "clock=state.clock + amount + 1)"),
     ("a tick sets the stage time", TICKED, "clock=state.clock + amount, stage_time=state.clock)"),
     ("a tick sets the failed phase to 0", TICKED, "clock=state.clock + amount, failed_phase=0)"),
-    ("a step hands its state back untouched", AFTER, "return number, state"),
+    ("a step hands its state back untouched", AFTER, "state"),
     ("a refused tick moves the clock", AFTER, AFTER.replace("if number", "if number and code != TICK")),
 ]
 
@@ -424,37 +424,34 @@ RESETS = [
 
 # The order of refusals of one step: 4, 5, 6, 7, 8, 9, 10 and 13, 12, 11. No step can get two of 8, 9 and 10.
 
-RULE, RULE_ANSWER = "    if rule:", "return NOT_ADMITTED, rule, state"
+RULE, RULE_ANSWER = "    if rule:", "return NOT_ADMITTED, rule, 0, state"
 NO_CODE, ALLOWED = "if code not in ALLOWED:", "    phases, stages = ALLOWED[code]\n"
-NUMBER = "number = unreadable(code, amount, middle) or forbidden(table, state, code, amount)"
-FORBIDDEN = "(code in ALLOWED and forbidden(table, state, code, amount))"
+UNREAD, FORBIDDEN = "(unread, 0) if unread else", "forbidden(table, state, code, amount)"
+GIVES = f"code in ALLOWED and {FORBIDDEN}[0] =="
 LATEST = "    return latest\n"
-PAST_FIRST = """\
-    for number, latest in latest_clocks(table, state, code) if code == {} and state.phase in {} else ():
-        if state.clock + amount > latest:
-            return number
+OVER_FIRST = """\
+    for number, excess in excesses(table, state, code, amount) if code == {} and state.phase in {} else ():
+        if excess > 0:
+            return number, excess
 """
 
 STEP_ORDER = [
     ("5 before 4", RULE, "    if rule and code in ALLOWED:"),
     ("5 and 6 before 4", RULE, "    if rule and not unreadable(code, amount, middle):"),
-    *((f"{number} before 4", RULE, f"    if rule and (unreadable(code, amount, middle) or {FORBIDDEN} != {number}):")
+    *((f"{number} before 4", RULE, f"    if rule and (unreadable(code, amount, middle) or not ({GIVES} {number})):")
       for number in range(7, 14)),
-    ("4 without its rule", RULE_ANSWER, "return NOT_ADMITTED, 0, state"),
-    ("4 with the start state", RULE_ANSWER, "return NOT_ADMITTED, rule, START"),
+    ("4 without its rule", RULE_ANSWER, "return NOT_ADMITTED, 0, 0, state"),
+    ("4 with the start state", RULE_ANSWER, "return NOT_ADMITTED, rule, 0, START"),
     ("6 for the middle byte before 5", NO_CODE, "if code not in ALLOWED and middle == 0:"),
     ("6 for the amount before 5", NO_CODE, "if code not in ALLOWED and amount == 0:"),
-    *((f"7 for the {field} before 5", NUMBER, NUMBER.replace("= ", f"= (state.{field} > {last} and NOT_ALLOWED) or "))
+    *((f"7 for the {field} before 5", UNREAD, f"(NOT_ALLOWED, 0) if state.{field} > {last} else {UNREAD}")
       for field, last in (("phase", "ERROR"), ("stage", "WAITING"), ("box", "IN_GEAR"))),
-    *((f"{number} before 6", NUMBER, NUMBER.replace("= ", f"= ({FORBIDDEN} == {number} and {number}) or "))
-      for number in range(7, 14)),
-    ("8 before 7", ALLOWED, f"{ALLOWED}    {WRONG_BOX} != REQUESTS[code].box:\n        return WRONG_BOX\n"),
+    *((f"{number} before 6", UNREAD, f"{FORBIDDEN} if {GIVES} {number} else {UNREAD}") for number in range(7, 14)),
+    ("8 before 7", ALLOWED, f"{ALLOWED}    {WRONG_BOX} != REQUESTS[code].box:\n        return WRONG_BOX, 0\n"),
     ("8 before 7 for a box above 1", UNLISTED_BOX, f"{UNLISTED_BOX} and code not in REQUESTS"),
-    ("9 before 7", ALLOWED,
-     f"{ALLOWED}    if state.phase in ENGINE_PHASES and state.clock < earliest_clock(table, state, code):\n"
-     "        return TOO_EARLY\n"),
-    ("10 before 7", ALLOWED, ALLOWED + PAST_FIRST.format("TAKE", "PHASES")),
-    ("13, 12 and 11 before 7", ALLOWED, ALLOWED + PAST_FIRST.format("TICK", "range(256)")),
+    ("9 before 7", ALLOWED, ALLOWED + OVER_FIRST.format("ASK_CLUTCH", "ENGINE_PHASES")),
+    ("10 before 7", ALLOWED, ALLOWED + OVER_FIRST.format("TAKE", "PHASES")),
+    ("13, 12 and 11 before 7", ALLOWED, ALLOWED + OVER_FIRST.format("TICK", "range(256)")),
     ("12 before 13", LATEST, "    return latest[1:-1] + latest[:1] + latest[1:][-1:]\n"),
     ("11 before 12", LATEST, "    return latest[:1] + latest[1:][::-1]\n"),
     ("11 before 13", LATEST, "    return latest[1:][-1:] + latest[:1] + latest[1:-1]\n"),
