@@ -86,6 +86,43 @@ JUDGE = [
     ("the running judge admits any table", ADVANCED, f"number, *rest = {JUDGED}\n    return number, 0, *rest"),
 ]
 
+# The excess of the judge and of the running judge.
+
+EACH, RAN = "accepted += number == 0", "number, rule, excess, reached = engine(table, reached, *record(four))"
+
+
+def judge_gives(excess):
+    """A judge that gives this excess."""
+    return VERDICT, VERDICT.replace("excess", excess)
+
+
+def advance_gives(excess):
+    """A running judge that gives this excess."""
+    return ADVANCED, ADVANCED.replace("return", "*answer, excess, state =") + f"\n    return *answer, {excess}, state"
+
+
+EXCESSES = [
+    ("the judge without an excess", *judge_gives("0")),
+    ("the judge keeps the excess of the record before", EACH, f"{EACH}\n        excess *= number == 0"),
+    ("the judge's excess of 8 bits", *judge_gives("excess % 2**8")),
+    ("the judge's excess of 15 bits", *judge_gives("excess % 2**15")),
+    ("the judge's excess one more", *judge_gives("excess + (excess > 0)")),
+    ("the judge with the rule for the excess", *judge_gives("excess or rule")),
+    ("the judge with the clock of the refused record", *judge_gives("excess + state.clock * (number > 8)")),
+    ("the judge's count and excess crossed", VERDICT, "return number, rule, excess, accepted, state"),
+    *((f"the judge without the excess of {number}", *judge_gives(f"excess * (number != {number})"))
+      for number in (9, 11, 12)),
+    ("the running judge without an excess", *advance_gives("0")),
+    ("the running judge's excess of 32 bits", *advance_gives("excess % 2**32")),
+    ("the running judge's excess at most 32 bits", *advance_gives("min(excess, 2**32 - 1)")),
+    ("the running judge's excess of 16 bits", *advance_gives("excess % 2**16")),
+    ("the running judge with the rule for the excess", *advance_gives("excess or answer[1]")),
+    *((f"the running judge without the excess of {number}", *advance_gives(f"excess * (answer[0] != {number})"))
+      for number in range(9, 14)),
+    ("a run keeps the excess of the record before", RAN, f"{RAN.replace('excess', 'found')}\n        "
+     "excess = excess if number else found"),
+]
+
 # The block call: its records, its number and rule, its count and its state.
 
 WHOLE, BLOCK = "records[:len(records) // RECORD.size * RECORD.size]", "    return run(step, state, table, whole)\n"
@@ -167,6 +204,23 @@ BLOCKS = [
          "if number > 6 else reached")),
 ]
 
+# The excess of a block.
+
+BLOCK_EXCESSES = [
+    (f"a block {what}", BLOCK, block_gives(f"number, rule, accepted, {excess}, reached")) for what, excess in (
+        ("without an excess", "0"),
+        ("with the excess of its first record alone", "excess * (accepted == 0)"),
+        ("with the excess of a later record alone", "excess * (accepted > 0)"),
+        ("with an excess of 32 bits", "excess % 2**32"),
+        ("with an excess of at most 32 bits", "min(excess, 2**32 - 1)"),
+        ("with an excess of 16 bits", "excess % 2**16"),
+        ("with the excess from the clock that it began with", "excess and excess + state.clock - reached.clock"),
+        ("with the rule for the excess", "excess or rule"),
+        ("with the count for the excess", "excess or accepted * (number > 0)"),
+        *((f"without the excess of {number}", f"excess * (number != {number})") for number in range(9, 14)),
+    )
+] + [("a block's count and excess crossed", BLOCK, block_gives("number, rule, excess, accepted, reached"))]
+
 # The line, and a text laid into a buffer.
 
 UNREAD, FEED = "number <= NOT_ADMITTED", "{excess}\\n"
@@ -174,7 +228,35 @@ READ, JUDGE_FILE = "number, rule, table, records = read(file)", "accepted, exces
 LAID, NO_ROOM = "return 0, len(text), text + buffer[len(text):]", "return NO_ROOM, 0, buffer"
 DOES_NOT_FIT, LAID_LINE = "if len(text) > len(buffer):", "return laid(line(file), buffer)"
 
+SEVENTH, FIELDS = " {excess}", "{word} {accepted} {number} {state.clock} {state.phase} {state.box} {excess}"
+
+
+def off_sevenths():
+    """The excess in each other place of the line, and in other forms."""
+    for name, field in (("count", " {accepted}"), ("reason", " {number}"), ("clock", " {state.clock}"),
+                        ("phase", " {state.phase}"), ("box", " {state.box}")):
+        before, behind = FIELDS.split(field)
+        yield f"the excess before the {name}", FIELDS, before + SEVENTH + field + behind[:-len(SEVENTH)]
+    for how, wrong in (
+        ("missing", ""), ("missing where it is 0", "{f' {excess}' if excess else ''}"),
+        ("missing where accepted", "{f' {excess}' if number else ''}"),
+        ("missing where unread", "{'' if 0 < number <= NOT_ADMITTED else f' {excess}'}"),
+        ("missing where refused with 5 to 8", "{'' if 4 < number < 9 else f' {excess}'}"),
+        ("in hexadecimal", " {excess:x}"), ("in two digits", " {excess:02}"), ("with a sign", " {excess:+}"),
+        ("with commas", " {excess:,}"), ("in seconds", " {excess / 1000}"), ("in whole seconds", " {excess // 1000}"),
+        ("of 8 bits", " {excess % 2**8}"), ("in four digits", " {excess % 10**4}"), ("with its unit", " {excess} ms"),
+        ("behind two spaces", "  {excess}"), ("twice", " {excess} {excess}"), ("always 0", " 0"),
+        ("1 where accepted", " {excess or int(number == 0)}"), ("1 where unread", " {excess or int(0 < number < 5)}"),
+        ("1 with 5 to 8", " {excess or int(4 < number < 9)}"), ("one more", " {excess + (excess > 0)}"),
+        ("the reason", " {number}"), ("the stage", " {state.stage}"), ("the failed phase", " {state.failed_phase}"),
+    ):
+        yield f"the line's excess {how}", SEVENTH, wrong
+
+
 LINE = [
+    *off_sevenths(),
+    ("the line with the rule for the excess", f"number, _, {JUDGE_FILE}",
+     f"number, rule, {JUDGE_FILE}\n    excess = excess or rule"),
     ("refused for 4", UNREAD, "number < NOT_ADMITTED"),
     ("unread for 5", UNREAD, "number <= 5"),
     ("refused for 1", UNREAD, "1 < number <= NOT_ADMITTED"),
@@ -301,4 +383,4 @@ JOIN = [
     ("16 changes the buffer", DIFFERS, "return OVERLAP_DIFFERS, held, buffer[:offset] + part + buffer[end:]"),
 ]
 
-WRONG_FILES = [*READER, *JUDGE, *BLOCKS, *LINE, *WRITER, *JOIN]
+WRONG_FILES = [*READER, *JUDGE, *EXCESSES, *BLOCKS, *BLOCK_EXCESSES, *LINE, *WRITER, *JOIN]

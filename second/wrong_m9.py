@@ -230,6 +230,53 @@ STEPS = [
     ("Sync_DE for Zero_DE", M9, '"OpenClutch_Zero_DE": "Zero_DE"', '"OpenClutch_Zero_DE": "Sync_DE"'),
 ]
 
+# The excess: of a tick that of the guard that refuses, of an event that of its guard on times.
+
+ALL_PASSED = "for refusal, excess in found if excess > 0"
+BOUND, STEPPED = "else TOO_LATE, excess", "return number, 0, excess, variables"
+TO_ANOTHER = 'variables[bound.time] + getattr(table, LIMITS[bound.limit].replace("DE", "{}")) - variables["time"]'
+
+EXCESSES = [
+    *((f"the excess of a tick is {how}", M9, PAST, f"return number, {wrong}") for how, wrong in (
+        ("one more", "passed[0] + 1"), ("one less", "passed[0] - 1"), ("always 0", "0"), ("always 1", "1"),
+        ("with the other sign", "-passed[0]"), ("of 8 bits", "passed[0] % 2**8"), ("the whole tick", "amount"),
+        ("measured from the old time", "passed[0] - amount"), ("what was left of the limit", "amount - passed[0]"),
+        ("that of grd2 to grd22 where they refuse too",
+         f"([excess {ALL_PASSED} and refusal == PAST_PHASE_LIMIT] or passed)[0]"),
+        ("that of the first guard that refuses", f"[excess {ALL_PASSED}][0]"),
+        ("the smallest of those that refuse", f"min(excess {ALL_PASSED})"),
+        ("the sum of those that refuse", f"sum(excess {ALL_PASSED})"),
+    )),
+    *((f"the excess of {number} in the manual's engine is {how}", M9, PAST,
+       f"return number, {wrong} if number == {number} else passed[0]")
+      for number in (11, 12)
+      for how, wrong in (("one more", "passed[0] + 1"), ("one less", "passed[0] - 1"), ("0", "0"))),
+    *((f"the excess of asking too early is {how}", M9, BOUND, f"else TOO_LATE, {wrong}") for how, wrong in (
+        ("one more", "excess + 1"), ("one less", "excess - 1"), ("always 0", "0"), ("always 1", "1"),
+        ("with the other sign", "-excess"), ("of 8 bits", "excess % 2**8"),
+        ("the time since the request", 'variables["time"] - variables[bound.time]'),
+        ("the whole limit", "getattr(table, LIMITS[bound.limit])"),
+        ("measured to EX", TO_ANOTHER.format("EX")), ("measured to DL", TO_ANOTHER.format("DL")),
+    )),
+    *((f"{what} with the milliseconds to its guard on times", M9, "return 0, 0\n",
+       'return 0, sum(-bound.excess(table, variables, variables["time"]) for bound in self.bounds '
+       f'if bound.relation == "{relation}")\n')
+      for what, relation in (("a take", "≤"), ("asking for the clutch", "≥"))),
+    ("an event that is accepted with an excess of 1", M9, "return 0, 0\n", "return 0, 1\n"),
+    ("a tick that is accepted with its amount", M9, "return 0, 0, done(", "return 0, amount, done("),
+    ("a tick that is accepted with the milliseconds that are left", M9, "return 0, 0, done(",
+     "return 0, min(-excess for _, excess in found), done("),
+    ("7 of the manual's engine with an excess", M9, "(NOT_ALLOWED, 0)", "(NOT_ALLOWED, 1)"),
+    ("7 of the manual's engine with the time", M9, "(NOT_ALLOWED, 0)", '(NOT_ALLOWED, variables["time"])'),
+    ("8 of the manual's engine with an excess", M9, "return WRONG_BOX, 0", "return WRONG_BOX, 1"),
+    ("4 of the manual's engine with an excess", M9, "return NOT_ADMITTED, rule, 0, variables",
+     "return NOT_ADMITTED, rule, rule, variables"),
+    ("5 and 6 of the manual's engine with an excess", M9, "unreadable(code, amount, middle), 0",
+     "unreadable(code, amount, middle), 1"),
+    ("the manual's engine without an excess", M9, STEPPED, "return number, 0, 0, variables"),
+    ("the manual's engine with the excess for the rule", M9, STEPPED, "return number, excess, 0, variables"),
+]
+
 # The reading.
 
 LEFT = "left = variables[order.taken] or order.asked and variables[order.asked]"
@@ -257,4 +304,4 @@ READING = [
     ("an order is not left by taking", M9, LEFT, "left = order.asked and variables[order.asked]"),
 ]
 
-WRONG_M9 = [*AS_PRINTED, *GUARDS, *ACTIONS, *RESETS, *TICKS, *STEPS, *READING]
+WRONG_M9 = [*AS_PRINTED, *GUARDS, *ACTIONS, *RESETS, *TICKS, *STEPS, *EXCESSES, *READING]

@@ -458,6 +458,127 @@ STEP_ORDER = [
     ("12 and 11 before 13", LATEST, "    return latest[1:] + latest[:1]\n"),
 ]
 
+# The excess of the refusals 9 to 13. The number that is given with it stays right.
+
+OVER, WITHIN, STEPPED = "((number, excess) for number", "if excess > 0), (0, 0))", "return number, 0, excess, state"
+ORDER, OTHER = "PHASES[state.phase].order", "(ZERO_TORQUE if PHASES[state.phase].order is SYNC else SYNC)"
+PAST = "(state.clock + amount - state.{} - {})"
+ALSO_PHASE = "dict(found)[PAST_PHASE_LIMIT]"
+
+
+def entry(limit, order=ORDER):
+    """An order's limit under the table."""
+    return f"getattr(table, {order}.{limit})"
+
+
+def other_excess(number, wrong):
+    """The text by which the excess of a number is another."""
+    return OVER, f"((number, {wrong} if number == {number} else excess) for number"
+
+
+def off_excesses():
+    """The excess of each number off by one, always the same, too narrow, or another part of the tick."""
+    for number in range(9, 14):
+        for how, wrong in (
+            ("one more", "excess + 1"), ("one less", "excess - 1"), ("always 0", "0"), ("always 1", "1"),
+            ("with the other sign", "-excess"), ("of 8 bits", "excess % 2**8"), ("the number", "number"),
+        ):
+            yield f"the excess of {number} is {how}", *other_excess(number, wrong)
+    for number in range(9, 13):
+        for how, wrong in (
+            ("of 16 bits", "excess % 2**16"), ("at most 16 bits", "min(excess, 2**16 - 1)"),
+            ("of 32 bits with a sign", "(excess + 2**31) % 2**32 - 2**31"),
+            ("at most 31 bits", "min(excess, 2**31 - 1)"),
+        ):
+            yield f"the excess of {number} is {how}", *other_excess(number, wrong)
+    for number in range(11, 14):
+        for how, wrong in (
+            ("measured from the old clock", "excess - amount"), ("the whole tick", "amount"),
+            ("what was left of the limit", "amount - excess"),
+        ):
+            yield f"the excess of {number} is {how}", *other_excess(number, wrong)
+
+
+def off_measures():
+    """The excesses of 9, 10 and 11 from another time, to another limit, and an age or a limit for them."""
+    limits = {9: ("earliest", -1), 10: ("expiry", 1), 11: ("phase_limit", 1)}
+    others = {9: ("expiry", "phase_limit", "device_limit"), 10: ("earliest", "phase_limit", "device_limit"),
+              11: ("device_limit",)}
+    for number, (limit, sign) in limits.items():
+        for time in ("stage_time", "request_time"):
+            yield (f"the excess of {number} from the {words(time)}",
+                   *other_excess(number, f"{sign} * {PAST.format(time, entry(limit))}"))
+        for other in others[number]:
+            yield (f"the excess of {number} to the {words(other)}",
+                   *other_excess(number, f"{sign} * {PAST.format('phase_time', entry(other))}"))
+        yield (f"the excess of {number} is the age of the phase",
+               *other_excess(number, PAST.format("phase_time", "0")))
+        yield f"the excess of {number} is the whole limit", *other_excess(number, entry(limit))
+    for number, limit, sign in ((9, "earliest", -1), (10, "expiry", 1)):
+        yield (f"the excess of {number} to the limit of the other engine's order",
+               *other_excess(number, f"{sign} * {PAST.format('phase_time', entry(limit, OTHER))}"))
+
+
+EXCESSES = [
+    *off_excesses(),
+    *off_measures(),
+    ("the excess of 9 wraps at 32 bits", *other_excess(9, "excess % 2**32")),
+    ("the excess of 9 is at most 32 bits", *other_excess(9, "min(excess, LAST_CLOCK)")),
+    ("the excess of 9 to a sum that wraps at 32 bits",
+     *other_excess(9, "(excess + state.clock) % 2**32 - state.clock")),
+    ("the excess of 11 to the channel's limit", *other_excess(11, PAST.format("stage_time", "table.Channel_DL"))),
+    ("the excess of 11 to ChangeDL", *other_excess(11, PAST.format("phase_time", "table.ChangeDL"))),
+    ("the excess of 12 is that of 11 where a tick passes both limits",
+     *other_excess(12, f"({ALSO_PHASE} if {ALSO_PHASE} > 0 else excess)")),
+    *((f"the excess of 12 is that of 11 where a tick passes both limits in stage {words(stage)}",
+       *other_excess(12, f"({ALSO_PHASE} if {ALSO_PHASE} > 0 and state.stage == {stage} else excess)"))
+      for stage in ("SENT", "WORKING", "GOOD")),
+    ("the excess of 12 is always that of 11", *other_excess(12, ALSO_PHASE)),
+    ("the excess of 12 is the larger one where a tick passes both limits",
+     *other_excess(12, f"max(excess, {ALSO_PHASE})")),
+    ("the excess of 12 is the smaller one where a tick passes both limits",
+     *other_excess(12, f"(min(excess, {ALSO_PHASE}) if {ALSO_PHASE} > 0 else excess)")),
+    ("the excess of 12 is the sum where a tick passes both limits",
+     *other_excess(12, f"excess + max(0, {ALSO_PHASE})")),
+    ("the excess of 12 to the device's limit in stages sent and good", *other_excess(
+        12, f"({PAST.format('stage_time', entry('device_limit'))} if state.stage != WORKING else excess)")),
+    ("the excess of 12 to the channel's limit in stage working",
+     *other_excess(12, PAST.format("stage_time", "table.Channel_DL"))),
+    ("the excess of 12 from the phase time", *other_excess(12, "excess + state.stage_time - state.phase_time")),
+    ("the excess of 12 is the age of the stage", *other_excess(12, PAST.format("stage_time", "0"))),
+    ("the excess of 13 is the new clock", *other_excess(13, "state.clock + amount")),
+    ("the excess of 13 is that of 12 where a tick passes that limit too",
+     *other_excess(13, "(max(0, dict(found).get(PAST_STAGE_LIMIT, 0)) or excess)")),
+    ("the excess of 13 is that of 11 where a tick passes that limit too",
+     *other_excess(13, "(max(0, dict(found).get(PAST_PHASE_LIMIT, 0)) or excess)")),
+    ("the excess is the largest of those that are passed", OVER, "((number, max(dict(found).values())) for number"),
+    ("an accepted step with the milliseconds that are left", WITHIN,
+     "if excess > 0), (0, min((-excess for _, excess in found), default=0)))"),
+    ("an accepted step with its amount", WITHIN, "if excess > 0), (0, amount))"),
+    ("an accepted step with an excess of 1", WITHIN, "if excess > 0), (0, 1))"),
+    ("7 with an excess of 1", "return NOT_ALLOWED, 0", "return NOT_ALLOWED, 1"),
+    ("7 with the age of the phase", "return NOT_ALLOWED, 0", "return NOT_ALLOWED, state.clock - state.phase_time"),
+    *((f"7 with the excess of {number}", "return NOT_ALLOWED, 0",
+       f"return NOT_ALLOWED, max(0, dict(excesses(table, state, code, amount)).get({number}, 0)) "
+       f"if code == {code} and state.phase in {phases} else 0")
+      for number, code, phases in ((9, "ASK_CLUTCH", "ENGINE_PHASES"), (10, "TAKE", "ENGINE_PHASES"),
+                                   (11, "TICK", "range(256)"), (12, "TICK", "range(256)"), (13, "TICK", "range(256)"))),
+    ("8 with an excess of 1", "return WRONG_BOX, 0", "return WRONG_BOX, 1"),
+    ("8 with the clock", "return WRONG_BOX, 0", "return WRONG_BOX, state.clock"),
+    ("5 with how far the code is past the last", UNREAD, f"(unread, max(0, code - 13)) if unread == 5 else {UNREAD}"),
+    ("6 with how far the amount is past the longest tick", UNREAD,
+     f"(unread, max(0, amount - LONGEST_TICK)) if unread == 6 else {UNREAD}"),
+    *((f"6 with the excess of {number}", UNREAD,
+       f"(unread, {FORBIDDEN}[1]) if unread == 6 and {GIVES} {number} else {UNREAD}") for number in range(9, 14)),
+    ("4 with its rule for the excess", RULE_ANSWER, "return NOT_ADMITTED, rule, rule, state"),
+    ("4 with how far the rule is broken", RULE_ANSWER, "return NOT_ADMITTED, rule, -slacks(table)[rule - 1], state"),
+    ("4 with the excess of the step", RULE_ANSWER,
+     "return NOT_ADMITTED, rule, admitted_step(table, state, code, amount, middle)[1], state"),
+    ("a step without its excess", STEPPED, "return number, 0, 0, state"),
+    ("the excess for the rule", STEPPED, "return number, excess, 0, state"),
+    ("rule and excess crossed", RULE_ANSWER, "return NOT_ADMITTED, 0, rule, state"),
+]
+
 WRONG_RULES = [
-    *ADMISSION, *PHASES, *ENTERING, *CODES, *ALLOWED_WHEN, *LIMITS, *EFFECTS, *BOXES, *RESETS, *STEP_ORDER,
+    *ADMISSION, *PHASES, *ENTERING, *CODES, *ALLOWED_WHEN, *LIMITS, *EFFECTS, *BOXES, *RESETS, *STEP_ORDER, *EXCESSES,
 ]
