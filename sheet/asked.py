@@ -15,24 +15,30 @@ APART = rules.DEFAULT._replace(Engine_Zero_DL=202, Clutch_Open_DL=153, Clutch_Cl
 
 
 class Question(NamedTuple):
-    """A cell of the sheet in words, a step on a state, and the number and the phase that the answer has to have."""
+    """A cell of the sheet in words, a step on a state, and the number, the excess and the phase that the answer has to have."""
 
     cell: str
     state: rules.State
     code: int
     amount: int
     number: int
+    excess: int
     phase: int
 
 
 def told(cell, state, code, phase, amount=0):
     """A step that is accepted and leads to this phase."""
-    return Question(cell, state, code, amount, 0, phase)
+    return Question(cell, state, code, amount, 0, 0, phase)
 
 
-def refused(cell, state, code, number, amount=0):
-    """A step that is refused with this number."""
-    return Question(cell, state, code, amount, number, state.phase)
+def passed(cell, state, code, number, amount=0):
+    """A step that is refused with the number of a limit, over it by one."""
+    return Question(cell, state, code, amount, number, 1, state.phase)
+
+
+def not_allowed(cell, state, code):
+    """A step that the phase doesn't allow."""
+    return Question(cell, state, code, 0, rules.NOT_ALLOWED, 0, state.phase)
 
 
 def asked_of_order(row, limits):
@@ -42,17 +48,17 @@ def asked_of_order(row, limits):
     limit = {column: getattr(APART, by_order[row.order].name) for column, by_order in limits.items() if row.order in by_order}
     yield told("next when taken", ready, rules.TAKE, row.next)
     yield told("device limit", working, rules.TICK, row.phase, limit["device"])
-    yield refused("device limit", working, rules.TICK, rules.PAST_STAGE_LIMIT, limit["device"] + 1)
+    yield passed("device limit", working, rules.TICK, rules.PAST_STAGE_LIMIT, limit["device"] + 1)
     yield told("phase limit", at, rules.TICK, row.phase, limit["phase"])
-    yield refused("phase limit", at, rules.TICK, rules.PAST_PHASE_LIMIT, limit["phase"] + 1)
+    yield passed("phase limit", at, rules.TICK, rules.PAST_PHASE_LIMIT, limit["phase"] + 1)
     if row.clutch:
-        yield refused("latest take", ready._replace(clock=limit["ex"] + 1), rules.TAKE, rules.TOO_LATE)
+        yield passed("latest take", ready._replace(clock=limit["ex"] + 1), rules.TAKE, rules.TOO_LATE)
         yield told("latest take", ready._replace(clock=limit["ex"]), rules.TAKE, row.next)
         yield told("after asking for the clutch", waiting._replace(clock=limit["de"]), rules.ASK_CLUTCH, row.clutch)
-        yield refused("earliest ask", waiting._replace(clock=limit["de"] - 1), rules.ASK_CLUTCH, rules.TOO_EARLY)
-        yield refused("error", working, rules.DEVICE_FAILED, rules.NOT_ALLOWED)
+        yield passed("earliest ask", waiting._replace(clock=limit["de"] - 1), rules.ASK_CLUTCH, rules.TOO_EARLY)
+        yield not_allowed("error", working, rules.DEVICE_FAILED)
     else:
-        yield refused("after asking for the clutch", waiting._replace(clock=1000), rules.ASK_CLUTCH, rules.NOT_ALLOWED)
+        yield not_allowed("after asking for the clutch", waiting._replace(clock=1000), rules.ASK_CLUTCH)
         yield told("error", working, rules.DEVICE_FAILED, row.phase)
         yield told("error", at._replace(stage=rules.FAILED), rules.RAISE_ERROR, ERROR)
 
@@ -64,8 +70,8 @@ def questions(table):
             yield from asked_of_order(row, table.limits)
         else:
             at = rules.State(phase=row.phase)
-            yield refused("next when taken", at._replace(stage=rules.GOOD), rules.TAKE, rules.NOT_ALLOWED)
-            yield refused("after asking for the clutch", at._replace(stage=rules.WAITING), rules.ASK_CLUTCH, rules.NOT_ALLOWED)
+            yield not_allowed("next when taken", at._replace(stage=rules.GOOD), rules.TAKE)
+            yield not_allowed("after asking for the clutch", at._replace(stage=rules.WAITING), rules.ASK_CLUTCH)
     for kind in table.kinds:
         yield told(f"request {kind.request}", rules.State(box=rules.REQUESTS[kind.request].box), kind.request, kind.first)
     yield told("finish", rules.State(phase=DONE), rules.FINISH, rules.AT_REST)
@@ -84,6 +90,7 @@ def facts(table, command):
     for limit in (table.channel, *(limit for by_order in table.limits.values() for limit in by_order.values())):
         yield f"the default of {limit.name} is not {limit.default}", default[limit.entry:limit.entry + 1] == [str(limit.default)]
     for each, line in zip(asked, lines):
-        word, number, _, _, _, phase, *_ = line.split() + 6 * ["nothing"]
-        yield (f"phase {each.state.phase}, {each.cell}: step {each.code} {each.amount} is answered {number} in phase {phase}, "
-               f"not {each.number} in phase {each.phase}"), (word, number, phase) == ("step", str(each.number), str(each.phase))
+        word, number, _, excess, _, _, phase, *_ = line.split() + 7 * ["nothing"]
+        said, wanted = (number, excess, phase), (str(each.number), str(each.excess), str(each.phase))
+        yield ("phase {}, {}: step {} {} is answered {} by {} in phase {}, not {} by {} in phase {}".format(
+            each.state.phase, each.cell, each.code, each.amount, *said, *wanted), (word, *said) == ("step", *wanted))
