@@ -1,4 +1,4 @@
--- Document 02, request 1, of the functions for C: a host that advances its running judge and the manual's variables record by record,
+-- Document 02, requests 1 and 4, of the functions for C: a host that advances its running judge and the manual's variables record by record,
 -- from their starts, gets every record answered alike. What is said, is said of whatever the contracts allow as outcomes.
 -- Assumes nothing.
 use mathlib.Core.Path.{_≡_, sym, subst, _∙_}
@@ -31,32 +31,36 @@ pub record Bytes : Type 0 where
   pub low : ℕ
   pub high : ℕ
 
--- a call of each with the same table and record: the manual's by value, and ours on the state that it is lent
-pub record Called (v : Variables) (s : State) (t : Table) (b : Bytes) (m : Moved) (number : ℕ) (s′ : State) : Type 0 where
+-- a call of each with the same table and record: the manual's by value, and ours on the state and the number for the excess that it is
+-- lent
+pub record Called (v : Variables) (s : State) (t : Table) (b : Bytes) (m : Moved) (number over : ℕ) (s′ : State) : Type 0 where
   pub κs : Lfts 0
   pub at : AtExit m9-advance.ended κs
   pub theirs : m9-advance-reads.Post κs (v, (t, (b .code, (b .middle, (b .low, (b .high, tt)))))) m at
-  pub κs′ : Lfts 1
+  pub κs′ : Lfts 2
   pub state : RefT State
+  pub excess : RefT ℕ
   pub at′ : AtExit advance.ended κs′
   pub lent : now state ≡ s
-  pub ours : ours.Advanced κs′ (state, (t, (b .code, (b .middle, (b .low, (b .high, tt)))))) number at′
+  pub ours : ours.Advanced κs′ (state, (t, (b .code, (b .middle, (b .low, (b .high, (excess, tt))))))) number at′
   pub left : now (at′ .0) ≡ s′
+  pub told : now (at′ .1 .1 .1 .1 .1 .1 .0) ≡ over
 
 -- what a host holds after any calls from the starts on, be they accepted or refused: the variables of `munasirel_m9_start` and a state
 -- of zeros at first
 pub data Advanced : Variables → State → Type 0 where
   started : (κs : Lfts 0) (v : Variables) (at : AtExit m9-start.ended κs) → m9-start-reads.Post κs tt v at → Advanced v start
   advanced :
-      (v : Variables) (s : State) → Advanced v s → (t : Table) (b : Bytes) (m : Moved) (number : ℕ) (s′ : State)
-      → Called v s t b m number s′ → Advanced (m .variables) s′
+      (v : Variables) (s : State) → Advanced v s → (t : Table) (b : Bytes) (m : Moved) (number over : ℕ) (s′ : State)
+      → Called v s t b m number over s′ → Advanced (m .variables) s′
 
--- the same number, and the variables read as the state
-pub record Alike (m : Moved) (n : ℕ) (s : State) : Type 0 where
+-- the same number and excess, and the variables read as the state
+pub record Alike (m : Moved) (n over : ℕ) (s : State) : Type 0 where
   pub number : m .number ≡ n
+  pub excess : m .excess ≡ over
   pub reads : Reads (m .variables) s
 
-module _ (v : Variables) (s : State) (t : Table) (b : Bytes) (m : Moved) (number : ℕ) (s′ : State) (c : Called v s t b m number s′) where
+module _ (v : Variables) (s : State) (t : Table) (b : Bytes) (m : Moved) (number over : ℕ) (s′ : State) (c : Called v s t b m number over s′) where
   abbrev answer : State → Answer
   answer r = advancedOn t r (b .code) (b .middle) (b .low) (b .high)
 
@@ -65,6 +69,11 @@ module _ (v : Variables) (s : State) (t : Table) (b : Bytes) (m : Moved) (number
 
   our-state : s′ ≡ answer s .state
   our-state = sym (c .left) ∙ subst (λ (r : State). now (c .at′ .0) ≡ answer r .state) (c .lent) (c .ours .1)
+
+  our-excess : over ≡ answer s .excess
+  our-excess =
+      sym (c .told)
+      ∙ subst (λ (r : State). now (c .at′ .1 .1 .1 .1 .1 .1 .0) ≡ answer r .excess) (c .lent) (c .ours .2)
 
   together : Joined v s → Together m (answer s)
   unfolding advancedOn
@@ -75,17 +84,18 @@ module _ (v : Variables) (s : State) (t : Table) (b : Bytes) (m : Moved) (number
   joined-again : Joined v s → Joined (m .variables) s′
   joined-again i = subst (λ (r : State). Joined (m .variables) r) (sym our-state) (together i .joined)
 
-  alike : Joined v s → Alike m number s′
+  alike : Joined v s → Alike m number over s′
   alike i = record {
     number = together i .alike .number ∙ sym our-number;
+    excess = together i .alike .excess ∙ sym our-excess;
     reads = subst (λ (r : State). Reads (m .variables) r) (sym our-state) (together i .alike .reads);
   }
 
 joined : {v : Variables} {s : State} → Advanced v s → Joined v s
 joined (started κs v at p) = subst (λ (x : Variables). Joined x start) (sym p) at-start
-joined (advanced v s a t b m number s′ c) = joined-again v s t b m number s′ c (joined a)
+joined (advanced v s a t b m number over s′ c) = joined-again v s t b m number over s′ c (joined a)
 
 pub every-record-is-answered-alike :
-    (v : Variables) (s : State) → Advanced v s → (t : Table) (b : Bytes) (m : Moved) (number : ℕ) (s′ : State)
-    → Called v s t b m number s′ → Alike m number s′
-every-record-is-answered-alike v s a t b m number s′ c = alike v s t b m number s′ c (joined a)
+    (v : Variables) (s : State) → Advanced v s → (t : Table) (b : Bytes) (m : Moved) (number over : ℕ) (s′ : State)
+    → Called v s t b m number over s′ → Alike m number over s′
+every-record-is-answered-alike v s a t b m number over s′ c = alike v s t b m number over s′ c (joined a)
