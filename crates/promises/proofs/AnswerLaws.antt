@@ -28,7 +28,7 @@ use Rattle.shift.specs.Refusals.{codeOf, amountOf, Reads}
 use Rattle.shift.proofs.Refusals.{a-code, reads}
 use Rattle.promises.specs.Effects.{Effect}
 use Rattle.promises.specs.Refusals.{recordRefusals, refusals}
-use Rattle.promises.specs.Excess.{HowFar}
+use Rattle.promises.specs.HowFar.{HowFar}
 use Rattle.promises.specs.Answered.{Answered}
 use Rattle.promises.proofs.Permitted.{permitted}
 use Rattle.promises.proofs.EffectLaws.{effects}

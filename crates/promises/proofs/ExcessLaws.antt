@@ -27,7 +27,7 @@ use Rattle.shift.specs.Refusals.{codeOf, amountOf, Reads}
 use Rattle.shift.proofs.ExcessLaws.{none-below-9}
 use Rattle.promises.specs.Allowed.{Shifting}
 use Rattle.promises.specs.Refusals.{TooEarly, TooLate, PastClock, PastStage, PastPhase}
-use Rattle.promises.specs.Excess.{atClock, EarlyBy, LateBy, PastBy, HowFar}
+use Rattle.promises.specs.HowFar.{atClock, EarlyBy, LateBy, PastBy, HowFar}
 use Rattle.promises.proofs.PlaceLaws.{withinEx, withinStage, withinPhase, too-late, in-channel-time, in-device-time, past-stage, in-phase-time, past-phase}
 
 abbrev timed : List ℕ

@@ -19,7 +19,7 @@ use Rattle.shift.specs.Refusals.{Formed}
 use Rattle.shift.proofs.State.step as step-call
 use Rattle.shift.proofs.State.step.Reads as step-reads
 use Rattle.promises.specs.Refusals.{recordRefusals, refusals, PastClock, PastStage, PastPhase}
-use Rattle.promises.specs.Excess.{atClock, EarlyBy, LateBy, PastBy}
+use Rattle.promises.specs.HowFar.{atClock, EarlyBy, LateBy, PastBy}
 use Rattle.promises.specs.Answered.{Answered}
 use Rattle.promises.proofs.RefusalLaws.{first-refusal}
 use Rattle.promises.proofs.Errors.{an-error-is-final-until-a-reset}

@@ -10,7 +10,7 @@ use Rattle.shift.specs.declared.Step.{Step}
 use Rattle.shift.specs.Refusals.{codeOf, amountOf}
 use Rattle.promises.specs.Effects.{Effect}
 use Rattle.promises.specs.Refusals.{refusals}
-use Rattle.promises.specs.Excess.{HowFar}
+use Rattle.promises.specs.HowFar.{HowFar}
 
 -- the number of the first condition that holds, or 0 where none does, and how far over the step is; refused, the state is the one given;
 -- accepted, it is the one that the step of this code and this amount makes of it

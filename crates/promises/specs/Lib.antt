@@ -1,7 +1,7 @@
 pub mod Allowed
 pub mod Effects
 pub mod Refusals
-pub mod Excess
+pub mod HowFar
 pub mod Answered
 pub mod Kinds
 pub mod Verdicts

@@ -17,7 +17,7 @@ use Rattle.limits.specs.declared.Table.{Table}
 use Rattle.line.specs.Refusals.{LineAnswers}
 use Rattle.line.proofs.Refusals.{line-answers}
 use Rattle.promises.specs.Verdicts.{at}
-use Rattle.promises.specs.Excess.{HowFar}
+use Rattle.promises.specs.HowFar.{HowFar}
 use Rattle.promises.proofs.OneStep.{refused-in-the-document's-words}
 use Rattle.promises.proofs.ExcessLaws.{how-far}
 use Rattle.shift.specs.declared.State.{State}

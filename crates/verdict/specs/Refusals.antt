@@ -1,6 +1,6 @@
 -- Document 01, "Numbers for what is refused", a second time: what judging a file answers, by its number, in the words of
--- stepfile/specs/Refusals.antt and of promises/specs/, Refusals.antt and Excess.antt. The table and what all the records mean are those of Files.antt, which
--- `FileHolds` has in words.
+-- stepfile/specs/Refusals.antt, promises/specs/Refusals.antt and promises/specs/HowFar.antt. The table and what all the records mean are
+-- those of Files.antt, which `FileHolds` has in words.
 -- Assumes nothing.
 use mathlib.Core.Path.{_≡_}
 use mathlib.Core.Logic.{_⊎_}
@@ -11,7 +11,7 @@ use Rattle.checks.specs.Conditions.{Condition, FirstOf}
 use Rattle.shift.specs.declared.State.{State}
 use Rattle.shift.specs.States.{start}
 use Rattle.promises.specs.Refusals.{recordRefusals}
-use Rattle.promises.specs.Excess.{HowFar}
+use Rattle.promises.specs.HowFar.{HowFar}
 use Rattle.promises.specs.Verdicts.{Exact}
 use Rattle.stepfile.specs.Files.{tableIn, readingsOf}
 use Rattle.stepfile.specs.Refusals.{bits16, tableBehind, fileRefusals, place, RuleFor}
