@@ -2,32 +2,32 @@
 -- Assumes nothing.
 use mathlib.Core.Path.{_≡_, refl, sym, subst, _∙_}
 use mathlib.Core.Logic.{inl, inr, ⊎-elim, _↔_}
-use mathlib.Core.Bool.{Bool, true, false, cond, _&&_}
+use mathlib.Core.Bool.{Bool, true, false, not, cond}
 use mathlib.Core.List.{List, [], _∷_, _++_}
-use Prim.Native.Nat.{ℕ, _+_, _-_, _≤_, _<_}
+use Prim.Native.Nat.{ℕ, _+_, _-_, _<_}
 use native.Mathlib.Decide.{decLt}
 use native.Mathlib.Omega.{arith}
-use lib.Dec.{T, leb, eqb, eqb→eq, le→leb}
-use borrow.Author.Tests.{lt-leb, leb-false}
-use Rattle.checks.specs.Checks.{Check, _!_, first}
-use Rattle.checks.specs.Conditions.{OneOf}
-use Rattle.checks.proofs.Checks.{Holds}
-use Rattle.checks.proofs.Tests.{tests, case, passes, left, right}
+use lib.Dec.{T, leb, le→leb, nleb→lt}
+use borrow.Author.Tests.{lt-leb}
+use Rattle.checks.specs.Checks.{_!_}
+use Rattle.checks.proofs.Checks.{within, at-most}
+use Rattle.checks.proofs.Tests.{tests}
 use Rattle.limits.specs.declared.Table.{Table}
 use Rattle.phases.specs.Phases.{unfinished}
-use Rattle.phases.proofs.ByPhaseLaws.{among, each, ex-in, de-in}
+use Rattle.phases.proofs.ByPhaseLaws.{among, ex-in, de-in}
 use Rattle.shift.specs.declared.State.{State}
 use Rattle.shift.specs.declared.Step.{Step}
 use Rattle.shift.specs.declared.Step.the-variants.{FromNeutral, GearToGear, ToNeutral, Deliver, DeviceGood, DeviceFailed, EngineWaits, Take, AskClutch, RaiseError, Finish, Tick, Reset}
 use Rattle.shift.specs.declared.Reading.{Reading}
 use Rattle.shift.specs.declared.Reading.the-variants.{Means, WrongCode, WrongAmount}
-use Rattle.shift.specs.Steps.{shiftsIn, inEngine, takeBound, inTakeTime, askBound, inAskTime, stageBound, phaseBound, limited, inTickTime, effect}
+use Rattle.shift.specs.Steps.{shiftsIn, inEngine, inTakeTime, askBound, inAskTime, stageBound, phaseBound, limited, inTickTime, effect}
 use Rattle.shift.specs.Answers.{listed, checks, guard, excess}
 use Rattle.shift.specs.Refusals.{codeOf, amountOf, Reads}
 use Rattle.shift.proofs.ExcessLaws.{none-below-9}
 use Rattle.promises.specs.Allowed.{Shifting}
-use Rattle.promises.specs.Refusals.{TooEarly, TooLate, PastClock, PastStage, PastPhase}
+use Rattle.promises.specs.Refusals.{PastClock, PastStage, PastPhase}
 use Rattle.promises.specs.HowFar.{atClock, EarlyBy, LateBy, PastBy, HowFar}
+use Rattle.promises.proofs.RefusalLaws.{by-test, behind}
 use Rattle.promises.proofs.PlaceLaws.{withinEx, withinStage, withinPhase, too-late, in-channel-time, in-device-time, past-stage, in-phase-time, past-phase}
 
 abbrev timed : List ℕ
@@ -92,38 +92,9 @@ module _ (t : Table) (s : State) where
   by-clock c n = (λ l. (refl, l), λ w. w .1)
 
 -- a limit that is passed applies
-held : (b : Bool) (x y : ℕ) → leb (cond b x 0) y ≡ false → (b ≡ true) × (y < x)
-held true x y e = (refl, leb-false x y e)
-held false x y e = let l = leb-false 0 y e in absurd (omega arith)
-
--- ---- the number of some checks, by what they are
-by-test :
-    (P : ℕ → Type 0) (b : Bool) (k : ℕ) (rest : List Check) → (b ≡ true → P (first rest)) → (b ≡ false → P k) → P (first ((b ! k) ∷ rest))
-by-test P true k rest f g = f refl
-by-test P false k rest f g = g refl
-
-abbrev below9 : List Check → Bool
-below9 [] = true
-below9 (c ∷ cs) = leb (c .number) 8 && below9 cs
-
-abbrev only7 : List Check → Bool
-only7 [] = true
-only7 (c ∷ cs) = eqb (c .number) 7 && only7 cs
-
-stays-below : (cs : List Check) → T (below9 cs) → first cs < 9
-stays-below [] h = omega arith
-stays-below (c ∷ cs) h =
-    let n = left (leb (c .number) 8) (below9 cs) h in
-    let m = stays-below cs (right (leb (c .number) 8) (below9 cs) h) in
-    case (c .ok) (λ e. rw e m) (λ e. rw e (omega (arith, tests)))
-
-behind-7 :
-    (P : ℕ → Type 0) (cs rest : List Check) → T (only7 cs) → P 7 → (Holds cs → P (first rest)) → P (first (cs ++ rest))
-behind-7 P [] rest o f g = g tt
-behind-7 P (c ∷ cs) rest o f g =
-    case (c .ok)
-    (λ e. rw e (behind-7 P cs rest (right (eqb (c .number) 7) (only7 cs) o) f (λ h. g (passes (c .ok) e, h))))
-    (λ e. rw (e, eqb→eq (c .number) 7 (left (eqb (c .number) 7) (only7 cs) o)) f)
+held : (b : Bool) (x y : ℕ) → T (not (leb (cond b x 0) y)) → (b ≡ true) × (y < x)
+held true x y h = (refl, nleb→lt x y h)
+held false x y h = let l = nleb→lt 0 y h in absurd (omega arith)
 
 -- ---- each step's answer
 module _ (t : Table) (s : State) where
@@ -133,17 +104,17 @@ module _ (t : Table) (s : State) where
   carries-nothing : (x : Step) (k : ℕ) → k < 9 → Far x k
   carries-nothing x k l = rw (none-below-9 t s (effect s x .clock) k l) (nothing t s (codeOf x) (amountOf x) k l)
 
-  untimed : (x : Step) → T (below9 (checks t s (Means x))) → Far x (guard t s (Means x))
-  untimed x h = carries-nothing x (guard t s (Means x)) (stays-below (checks t s (Means x)) h)
+  untimed : (x : Step) → T (within 0 8 (checks t s (Means x))) → Far x (guard t s (Means x))
+  untimed x h = let l = at-most 8 (checks t s (Means x)) h in carries-nothing x (guard t s (Means x)) (omega arith)
 
   take : Far Take (guard t s (Means Take))
   take =
-      behind-7 (Far Take) (listed s ++ shiftsIn s 3) (inTakeTime t s) tt (carries-nothing Take 7 (omega arith))
+      behind (Far Take) (listed s ++ shiftsIn s 3) (inTakeTime t s) 7 tt (λ _. carries-nothing Take 7 (omega arith))
       (λ h.
       by-test (Far Take) (withinEx t s) 10 [] (λ e. carries-nothing Take 0 (omega arith))
       (λ e.
       let z : Shifting s = omega (arith, tests) in
-      let w = too-late t s z (rw e tt) in
+      let w = too-late t s z e in
       let ex = ex-in t (s .phase) (z .0) (omega arith) in
       let past = w .1 in record {
         too-early = λ q. absurd (omega arith);
@@ -161,13 +132,13 @@ module _ (t : Table) (s : State) where
 
   ask : Far AskClutch (guard t s (Means AskClutch))
   ask =
-      behind-7 (Far AskClutch) (listed s ++ (shiftsIn s 5 ++ inEngine s)) (inAskTime t s) tt (carries-nothing AskClutch 7 (omega arith))
+      behind (Far AskClutch) (listed s ++ (shiftsIn s 5 ++ inEngine s)) (inAskTime t s) 7 tt (λ _. carries-nothing AskClutch 7 (omega arith))
       (λ h.
       by-test (Far AskClutch) (leb (askBound t s) (s .clock)) 9 [] (λ e. carries-nothing AskClutch 0 (omega arith))
       (λ e.
       let z : Shifting s = omega (arith, tests) in
       let de = de-in t (s .phase) (z .0) (omega arith) in
-      let early : s .clock < askBound t s = leb-false (askBound t s) (s .clock) e in record {
+      let early = nleb→lt (askBound t s) (s .clock) e in record {
         too-early = λ _. record {
           some = omega arith;
           then = λ q. let l = q .1 in omega arith;
@@ -184,17 +155,17 @@ module _ (t : Table) (s : State) where
     abbrev now : ℕ
     now = s .clock + n
 
-    past-13 : leb now 4294967295 ≡ false → Far (Tick n) 13
+    past-13 : T (not (leb now 4294967295)) → Far (Tick n) 13
     past-13 e = record {
       too-early = λ q. absurd (omega arith);
       too-late = λ q. absurd (omega arith);
       past-phase = λ q. absurd (omega arith);
       past-stage = λ q. absurd (omega arith);
-      past-clock = λ _. past-by (λ c m. PastClock (atClock c s) 12 m) 4294967295 now (by-clock t s) (leb-false now 4294967295 e);
+      past-clock = λ _. past-by (λ c m. PastClock (atClock c s) 12 m) 4294967295 now (by-clock t s) (nleb→lt now 4294967295 e);
       none = λ k. absurd (k (inr (inr (inr (inr (inl refl))))));
     }
 
-    past-12 : withinStage t s now ≡ false → Far (Tick n) 12
+    past-12 : T (not (withinStage t s now)) → Far (Tick n) 12
     past-12 e =
         let l = held (limited s) now (stageBound t s) e in record {
           too-early = λ q. absurd (omega arith);
@@ -205,7 +176,7 @@ module _ (t : Table) (s : State) where
           none = λ k. absurd (k (inr (inr (inr (inl refl)))));
         }
 
-    past-11 : withinPhase t s now ≡ false → Far (Tick n) 11
+    past-11 : T (not (withinPhase t s now)) → Far (Tick n) 11
     past-11 e =
         let l = held (unfinished (s .phase)) now (phaseBound t s) e in record {
           too-early = λ q. absurd (omega arith);
@@ -218,7 +189,7 @@ module _ (t : Table) (s : State) where
 
     tick : Far (Tick n) (guard t s (Means (Tick n)))
     tick =
-        behind-7 (Far (Tick n)) (listed s) (inTickTime t s now) tt (carries-nothing (Tick n) 7 (omega arith))
+        behind (Far (Tick n)) (listed s) (inTickTime t s now) 7 tt (λ _. carries-nothing (Tick n) 7 (omega arith))
         (λ h.
         by-test (Far (Tick n)) (leb now 4294967295) 13 ((withinStage t s now ! 12) ∷ (withinPhase t s now ! 11) ∷ [])
         (λ a.

@@ -28,28 +28,36 @@ use Rattle.promises.specs.Refusals.{placings, byCode, Misplaced, WrongSi
 use Rattle.promises.proofs.Permitted.{said, meant}
 use Rattle.promises.proofs.PlaceLaws.{withinEx, engine-phase, engine-order, in-take-time, too-late, in-channel-time, in-device-time, past-stage, in-phase-time, past-phase}
 
--- ---- a condition by the checks that test it: one, or several with its number
+-- ---- the number of some checks: by one, or by several with one number, and by those behind them
+pub by-test :
+    (P : ℕ → Type 0) (b : Bool) (k : ℕ) (rest : List Check) → (T b → P (first rest)) → (T (not b) → P k) → P (first ((b ! k) ∷ rest))
+by-test P true k rest f g = f tt
+by-test P false k rest f g = g tt
+
+abbrev pub only : ℕ → List Check → Bool
+only k [] = true
+only k (c ∷ cs) = eqb (c .number) k && only k cs
+
+pub behind :
+    (P : ℕ → Type 0) (cs rest : List Check) (k : ℕ) → T (only k cs) → (¬ Holds cs → P k) → (Holds cs → P (first rest)) → P (first (cs ++ rest))
+behind P [] rest k o f g = g tt
+behind P (c ∷ cs) rest k o f g =
+    case (c .ok)
+    (λ e. rw e (behind P cs rest k (right (eqb (c .number) k) (only k cs) o) (λ n. f (λ h. n (h .1))) (λ h. g (passes (c .ok) e, h))))
+    (λ e. rw (e, eqb→eq (c .number) k (left (eqb (c .number) k) (only k cs) o)) (f (λ h. subst T e (h .0))))
+
+-- ---- a condition by the checks that test it
 test :
     (b : Bool) (k : ℕ) (P : Type 0) (ws : List Condition) (rest : List Check)
     → (T b → ¬ P) → (T (not b) → P) → (T b → FirstOf ws (first rest)) → FirstOf ((P gives k) ∷ ws) (first ((b ! k) ∷ rest))
-test true k P ws rest f g r = inr (f tt, r tt)
-test false k P ws rest f g r = inl (g tt, refl)
-
-abbrev only : ℕ → List Check → Bool
-only k [] = true
-only k (c ∷ cs) = eqb (c .number) k && only k cs
+test b k P ws rest f g r = by-test (FirstOf ((P gives k) ∷ ws)) b k rest (λ t. inr (f t, r t)) (λ t. inl (g t, refl))
 
 several :
     (cs rest : List Check) (k : ℕ) (P : Type 0) (ws : List Condition)
     → T (only k cs) → (Holds cs → ¬ P) → (¬ Holds cs → P) → (Holds cs → FirstOf ws (first rest))
     → FirstOf ((P gives k) ∷ ws) (first (cs ++ rest))
-several [] rest k P ws o f g r = inr (f tt, r tt)
-several (c ∷ cs) rest k P ws o f g r =
-    case (c .ok)
-    (λ e.
-    let ok = passes (c .ok) e in
-    rw e (several cs rest k P ws (right (eqb (c .number) k) (only k cs) o) (λ h. f (ok, h)) (λ n. g (λ h. n (h .1))) (λ h. r (ok, h))))
-    (λ e. rw e (inl (g (λ h. subst T e (h .0)), eqb→eq (c .number) k (left (eqb (c .number) k) (only k cs) o))))
+several cs rest k P ws o f g r =
+    behind (FirstOf ((P gives k) ∷ ws)) cs rest k o (λ n. inl (g n, refl)) (λ h. inr (f h, r h))
 
 -- ---- what a step is refused with, on the state: 7 and on, 8 and on, 9 and on, 13 and on
 abbrev from-13 : Table → State → ℕ → ℕ → List Condition

@@ -8,7 +8,6 @@ use Rattle.shift.proofs.State.step.Reads as step-reads
 use Rattle.shift.proofs.State.unlisted.Reads as unlisted-reads
 use Rattle.shift.proofs.State.judged_listed.Reads as judged-listed-reads
 use Rattle.shift.proofs.State.judged_step.Reads as judged-step-reads
-use Rattle.shift.proofs.State.excess.Reads as excess-reads
 use Rattle.shift.proofs.Step.of.Reads as of-reads
 use Rattle.shift.proofs.Step.of_head.Reads as of-head-reads
 use Rattle.shift.proofs.refusal_of.Reads as refusal-of-reads
@@ -39,6 +38,3 @@ of-head κs a x y at at′ p q = p ∙ sym q
 
 pub judged-step : Determined judged-step-reads.Post
 judged-step κs a x y at at′ p q = p ∙ sym q
-
-pub excess : Determined excess-reads.Post
-excess κs a x y at at′ p q = p ∙ sym q

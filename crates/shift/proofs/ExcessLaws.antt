@@ -1,14 +1,13 @@
 -- Laws on how far over a refused step is: which numbers carry nothing.
 -- Assumes nothing.
 use mathlib.Core.Path.{_≡_, sym, ap, _∙_}
-use mathlib.Core.Bool.{Bool, true, false}
 use mathlib.Core.List.{[], _∷_}
-use Prim.Native.Nat.{ℕ, _≤_, _<_, zero-le}
+use Prim.Native.Nat.{ℕ, _<_, zero-le}
 use native.Mathlib.Decide.{decLt}
 use native.Mathlib.Omega.{arith}
-use lib.Dec.{leb}
 use lib.ListN.{List·getD-eq-default}
-use Rattle.checks.specs.Checks.{_!_, first}
+use Rattle.checks.specs.Checks.{first}
+use Rattle.checks.proofs.Checks.{at-most}
 use Rattle.checks.proofs.Ranges.{below}
 use Rattle.phases.proofs.CaseLaws.{NoneOf, otherwise}
 use Rattle.limits.specs.declared.Table.{Table}
@@ -39,13 +38,7 @@ refusal-below-9 WrongCode = omega arith
 refusal-below-9 WrongAmount = omega arith
 
 pub unlisted-below-9 : (s : State) → first (listed s) < 9
-unlisted-below-9 s = three (leb (s .phase) 23) (leb (s .stage) 5) (leb (s .«gear_box») 1)
-  where
-    three : (a b c : Bool) → first ((a ! 7) ∷ (b ! 7) ∷ (c ! 7) ∷ []) < 9
-    three true true true = omega arith
-    three true true false = omega arith
-    three true false c = omega arith
-    three false b c = omega arith
+unlisted-below-9 s = let l = at-most 8 (listed s) tt in omega arith
 
 -- what is refused by a number below 9 is refused with nothing over
 pub refused-below-9 :

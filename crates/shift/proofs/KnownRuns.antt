@@ -1,5 +1,5 @@
 -- Document 01, "Small table of known runs": K1 to K13, and the statement that the definitions give these answers, the state in all of
--- its fields; and the case for which document 02 moved the box and added the reset.
+-- its fields; the case for which document 02 moved the box and added the reset; and excesses that can be followed by hand.
 -- Assumes nothing.
 use mathlib.Core.Path.{_≡_, refl}
 use mathlib.Core.List.{List, [], _∷_, _++_, map}
@@ -135,3 +135,16 @@ known-runs = record { k1-k11 = refl; k12 = refl; k13 = refl }
 
 pub the-customer's-case : map (λ k. run default start (k .steps)) cases ≡ map (λ k. k .ends) cases
 the-customer's-case = refl
+
+-- ---- how far over: a tick past both limits is measured against the channel's, 155 past it and 5 past the phase's; one that the clock
+-- has no room for against the largest clock; an ask clutch with the phase's time at the largest clock passes 32 bits
+abbrev waitingFrom : ℕ → State
+waitingFrom time = state 0 neutral 1 time waiting 0 0 0
+
+pub record HowFarOver : Type 0 where
+  pub past-both : run default start (step 1 ∷ t 160 ∷ []) ≡ over (step 1 ∷ t 160 ∷ []) 1 12 155 (state 0 neutral 1 0 sent 0 0 0) .ends
+  pub past-the-clock : stepOn default (state 4294967290 neutral 0 0 none 0 0 0) 12 12 ≡ answered 13 7 (state 4294967290 neutral 0 0 none 0 0 0)
+  pub past-32-bits : stepOn default (waitingFrom 4294967295) 9 0 ≡ answered 9 4294967446 (waitingFrom 4294967295)
+
+pub how-far-over : HowFarOver
+how-far-over = record { past-both = refl; past-the-clock = refl; past-32-bits = refl }

@@ -15,7 +15,7 @@ use times::bound;
 
 impl State {
     // By the number that refuses; `now` is the clock that the step leads to. Every number but 9 to 13 carries 0.
-    pub fn excess(self, table: Table, now: u64, number: u8) -> u64
+    pub(crate) fn excess(self, table: Table, now: u64, number: u8) -> u64
         ensures { λ r. ⌜ r ≡ excessBy table self now number ⌝ }
     {
         let order = order_of(self.phase);
