@@ -1,5 +1,5 @@
--- Document 02, requests 1 and 4, carried through the two step functions: both engines are advanced call by call from their starts, and every
--- call is answered alike. What is said, is said of whatever the contracts allow as outcomes.
+-- Document 02, requests 1 and 4, carried through the two step functions: both engines are advanced call by call from their starts, and
+-- every call is answered alike. What is said, is said of whatever the contracts allow as outcomes.
 -- Assumes nothing.
 use mathlib.Core.Path.{_≡_, refl, sym, subst}
 use Prim.Native.Nat.{ℕ, zero, suc}

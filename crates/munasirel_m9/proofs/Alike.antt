@@ -1,5 +1,5 @@
--- Document 02, requests 1 and 4, of the functions for C: a host that advances its running judge and the manual's variables record by record,
--- from their starts, gets every record answered alike. What is said, is said of whatever the contracts allow as outcomes.
+-- Document 02, requests 1 and 4, of the functions for C: a host that advances its running judge and the manual's variables record by
+-- record, from their starts, gets every record answered alike. What is said, is said of whatever the contracts allow as outcomes.
 -- Assumes nothing.
 use mathlib.Core.Path.{_≡_, sym, subst, _∙_}
 use Prim.Native.Nat.{ℕ}

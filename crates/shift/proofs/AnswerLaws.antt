@@ -1,4 +1,4 @@
--- Laws on the answers: what is refused, what is no step, which steps leave the clock, and that an accepted one keeps it within its 32 bits.
+-- Laws on the answers: what is refused, what is no step, which steps leave the clock, and that an accepted one keeps it in 32 bits.
 -- Assumes nothing.
 use mathlib.Core.Path.{_≡_, refl}
 use mathlib.Core.Logic.{⊎-elim}
