@@ -7,18 +7,18 @@ use Rattle.limits.specs.declared.Table.{Table}
 use Rattle.shift.specs.declared.State.{State}
 use Rattle.shift.specs.Steps.{askBound, takeBound, phaseBound, stageBound}
 
--- by the number that refuses, from 0; `now` is the clock that the step leads to, which is a tick's new one
+-- by the number, from 0; `now` is the clock that the step leads to, which is a tick's new one
 abbrev pub excesses : Table → State → ℕ → List ℕ
 excesses t s now =
-    0
-    ∷ 0
-    ∷ 0
-    ∷ 0
-    ∷ 0
-    ∷ 0
-    ∷ 0
-    ∷ 0
-    ∷ 0
+    0  -- 0 accepted
+    ∷ 0  -- 1 fewer than 12 bytes
+    ∷ 0  -- 2 header
+    ∷ 0  -- 3 length
+    ∷ 0  -- 4 table not admitted
+    ∷ 0  -- 5 no such code
+    ∷ 0  -- 6 middle byte or amount
+    ∷ 0  -- 7 phase or stage
+    ∷ 0  -- 8 box on the wrong side
     ∷ (askBound t s - s .clock)  -- 9 ask clutch too early
     ∷ (s .clock - takeBound t s)  -- 10 take too late
     ∷ (now - phaseBound t s)  -- 11 tick past the phase limit
