@@ -1,5 +1,5 @@
 // What a case of records for both engines is answered by: each from its start, up to its first number that is not 0.
-ghost use Prim.Native.Nat.{_/_, _≤_, _<_};
+ghost use Prim.Native.Nat.{_/_, _<_};
 ghost use lib.ListN.{length};
 use limits::Table;
 use manual::Moved;
