@@ -7,7 +7,7 @@ use native.Mathlib.Numerals.{add-one}
 use native.Mathlib.Omega.{arith}
 use lib.ListN.{set}
 use lib.Seq.{sets}
-use Rattle.stepfile.specs.Bytes.{u16At, u16sAt}
+use Rattle.numbers.specs.Bytes.{u16At, u16sAt}
 
 -- storing n numbers that stand from place 12 on, of which i are stored: one more
 pub stored :

@@ -14,7 +14,7 @@ use Rattle.shift.specs.declared.Reading.the-variants.{Means, WrongCode, WrongAm
 use Rattle.shift.specs.declared.Step.{Step}
 use Rattle.shift.specs.declared.Step.the-variants.{FromNeutral, GearToGear, ToNeutral, Deliver, DeviceGood, DeviceFailed, EngineWaits, Take, AskClutch, RaiseError, Finish, Tick, Reset}
 use Rattle.shift.specs.Answers.{reading, plain, ticking, refusal}
-use Rattle.stepfile.specs.Bytes.{bytesOf}
+use Rattle.numbers.specs.Bytes.{bytesOf}
 use Rattle.stepfile.specs.Records.{recordOf, everyFour, recordsIn}
 use Rattle.stepfile.specs.Writing.{wrongOr, firstWrong, recordsOf}
 use Rattle.stepfile.specs.RoundTrip.{Bytes, AllRead, codesOf, amountsOf}

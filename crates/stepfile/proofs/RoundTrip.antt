@@ -16,7 +16,7 @@ use Rattle.limits.specs.Limits.{entries, tableOf}
 use Rattle.limits.specs.Rules.{brokenRule}
 use Rattle.stepfile.specs.declared.write.Wish.{Wish}
 use Rattle.stepfile.specs.declared.write.Wish.the-variants.{Given, NoTable}
-use Rattle.stepfile.specs.Bytes.{u16At, u16sAt, bytesOf}
+use Rattle.numbers.specs.Bytes.{u16At, u16sAt, bytesOf}
 use Rattle.stepfile.specs.Records.{recordOf, everyFour, recordsIn}
 use Rattle.stepfile.specs.Files.{tableEntries, recordOffset, recordCount, headed, tableIn, refusalOf, recordBytes, readingsOf}
 use Rattle.stepfile.specs.Writing.{wished, entriesOf, headerOf, recordsOf, fileOf, firstWrong, writable}

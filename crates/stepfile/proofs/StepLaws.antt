@@ -9,7 +9,7 @@ use Rattle.shift.specs.declared.Reading.{Reading}
 use Rattle.shift.specs.declared.Reading.the-variants.{Means, WrongCode, WrongAmount}
 use Rattle.shift.specs.Answers.{reading, refusal}
 use Rattle.shift.proofs.ReadingLaws.{past-codes}
-use Rattle.stepfile.specs.Bytes.{bytesOf}
+use Rattle.numbers.specs.Bytes.{bytesOf}
 use Rattle.stepfile.specs.Records.{recordOf, recordsIn}
 use Rattle.stepfile.specs.declared.write.Wrong.{Wrong}
 use Rattle.stepfile.specs.Writing.{wrongOr, firstWrong, recordsOf}

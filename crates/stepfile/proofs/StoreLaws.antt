@@ -3,28 +3,18 @@
 use mathlib.Core.Path.{_≡_, refl, sym, ap, _∙_}
 use mathlib.Core.List.{List, [], _∷_, _++_}
 use Prim.Native.Nat.{ℕ, zero, suc, _+_, _*_, _≤_, _<_}
-use native.Mathlib.Nat.{add-zero, zero-add}
+use native.Mathlib.Nat.{zero-add}
 use native.Mathlib.Numerals.{add-one, towards-suc}
 use native.Mathlib.Omega.{arith}
-use lib.ListN.{length, getD, set, drop, drop-of-length-le}
-use lib.Seq.{sets, sets-eq, drop-cons}
+use lib.ListN.{length, getD, drop, drop-of-length-le}
+use lib.Seq.{sets, drop-cons}
+use Rattle.numbers.specs.Bytes.{bytesOf}
+use Rattle.numbers.proofs.StoreLaws.{bytesOf-append, sets-append}
 use Rattle.shift.specs.Answers.{reading, refusal}
 use Rattle.stepfile.specs.declared.write.Wish.{Wish}
 use Rattle.stepfile.specs.declared.write.Wish.the-variants.{Given, NoTable}
 use Rattle.stepfile.specs.declared.write.Wrong.{Wrong}
-use Rattle.stepfile.specs.Bytes.{bytesOf}
 use Rattle.stepfile.specs.Writing.{entriesOf, recordsOf, wrongOr, firstWrong}
-use Rattle.stepfile.proofs.WritingLaws.{bytesOf-append}
-
-pub sets-append : (l : List ℕ) (i : ℕ) (xs ys : List ℕ) → sets l i (xs ++ ys) ≡ sets (sets l i xs) (i + length xs) ys
-sets-append l i [] ys = ap (λ n. sets l n ys) (sym (add-zero i))
-sets-append l i (x ∷ xs) ys =
-    let s = set l i x in
-    sets-append s (suc i) xs ys ∙ ap (λ n. sets (sets s (suc i) xs) n ys) (omega arith)
-
--- two stores, of a number's two bytes
-pub two-stores : (l : List ℕ) (i a b : ℕ) → set (set l i a) (i + 1) b ≡ sets l i (a ∷ b ∷ [])
-two-stores l i a b = rw (add-one i)
 
 -- ---- the entries of a table
 module _ (l es : List ℕ) (i : ℕ) where
@@ -92,6 +82,3 @@ file-stored l h e r =
 pub few : (w : Wish) → length (entriesOf w) ≤ 18
 few (Given t) = omega arith
 few NoTable = omega arith
-
-pub at-start : (l vs : List ℕ) (n : ℕ) → length vs ≡ n → n ≤ length l → sets l 0 vs ≡ vs ++ drop n l
-at-start l vs n e h = sets-eq vs l 0 (omega arith) ∙ ap (λ k. vs ++ drop k l) (zero-add (length vs) ∙ e)

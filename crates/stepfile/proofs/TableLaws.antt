@@ -13,11 +13,11 @@ use Rattle.checks.proofs.Checks.{Holds, holds→first}
 use Rattle.checks.proofs.Tests.{tests}
 use Rattle.limits.specs.Limits.{tableOf, default}
 use Rattle.limits.specs.Rules.{brokenRule}
-use Rattle.stepfile.specs.Bytes.{u16sAt, bytesOf}
+use Rattle.numbers.specs.Bytes.{u16sAt, bytesOf}
 use Rattle.stepfile.specs.Files.{tableEntries, recordOffset, recordCount, headedBy, headed, tableIn, refusalOf, fromOffset, recordBytes}
 use Rattle.stepfile.specs.Writing.{headerOf}
 use Rattle.stepfile.proofs.FileLaws.{not-refused}
-use Rattle.stepfile.proofs.WritingLaws.{bytesOf-append, length-bytesOf}
+use Rattle.numbers.proofs.StoreLaws.{bytesOf-append, length-bytesOf}
 
 -- ---- the numbers of 16 bits that were written are read
 pub dropped : (l : List ℕ) (i j n : ℕ) → u16sAt (drop i l) j n ≡ u16sAt l (i + j) n

@@ -16,11 +16,11 @@ use Rattle.checks.proofs.Tests.{tests, either}
 use Rattle.limits.specs.Limits.{entries}
 use Rattle.limits.specs.Rules.{brokenRule}
 use Rattle.stepfile.specs.declared.write.Wish.the-variants.{Given, NoTable}
-use Rattle.stepfile.specs.Bytes.{u16At, u16sAt, bytesOf}
+use Rattle.numbers.specs.Bytes.{u16At, u16sAt, bytesOf}
 use Rattle.stepfile.specs.Files.{tableOffset, tableEntries, recordOffset, recordCount, headedBy, tableIn, refusalOf}
 use Rattle.stepfile.specs.Writing.{wished, entriesOf, headerOf}
 use Rattle.stepfile.specs.RoundTrip.{Bytes, wishIn}
-use Rattle.stepfile.proofs.WritingLaws.{bytesOf-append}
+use Rattle.numbers.proofs.StoreLaws.{bytesOf-append}
 use Rattle.stepfile.proofs.TableLaws.{with-entries, without-entries}
 
 -- ---- what the checks of a good file tell

@@ -1,21 +1,13 @@
--- Laws on what is written: the bytes of two lists, how many there are, and the size of a file.
+-- Laws on what is written: how many numbers there are, and the size of a file.
 -- Assumes nothing.
-use mathlib.Core.Path.{_≡_, refl, ap}
+use mathlib.Core.Path.{_≡_, refl}
 use mathlib.Core.List.{List, [], _∷_, _++_}
-use Prim.Native.Nat.{ℕ, _*_, _/_, _%_}
+use Prim.Native.Nat.{ℕ, _*_}
 use native.Mathlib.Omega.{arith}
 use lib.ListN.{length, length-append}
 use Rattle.stepfile.specs.declared.write.Wish.{Wish}
-use Rattle.stepfile.specs.Bytes.{bytesOf}
+use Rattle.numbers.proofs.StoreLaws.{length-bytesOf}
 use Rattle.stepfile.specs.Writing.{entriesOf, recordsOf, fileOf, sizeOf}
-
-pub bytesOf-append : (xs ys : List ℕ) → bytesOf (xs ++ ys) ≡ bytesOf xs ++ bytesOf ys
-bytesOf-append [] ys = refl
-bytesOf-append (x ∷ xs) ys = ap (λ (l : List ℕ). x % 256 ∷ x / 256 ∷ l) (bytesOf-append xs ys)
-
-pub length-bytesOf : (xs : List ℕ) → length (bytesOf xs) ≡ 2 * length xs
-length-bytesOf [] = refl
-length-bytesOf (x ∷ xs) = let h = length-bytesOf xs in omega arith
 
 pub length-recordsOf : (cs ns : List ℕ) → length cs ≡ length ns → length (recordsOf cs ns) ≡ 2 * length cs
 length-recordsOf [] ns e = refl

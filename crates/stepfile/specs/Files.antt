@@ -11,7 +11,7 @@ use Rattle.limits.specs.Limits.{tableOf, default}
 use Rattle.limits.specs.Rules.{brokenRule}
 use Rattle.shift.specs.declared.Reading.{Reading}
 use Rattle.stepfile.specs.declared.Refusal.{Refusal}
-use Rattle.stepfile.specs.Bytes.{u16At, u32At, u16sAt}
+use Rattle.numbers.specs.Bytes.{u16At, u32At, u16sAt}
 use Rattle.stepfile.specs.Records.{recordsIn}
 
 -- ---- the header of 12 bytes

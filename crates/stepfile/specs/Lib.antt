@@ -1,4 +1,3 @@
-pub mod Bytes
 pub mod Records
 pub mod Files
 pub mod Writing

@@ -14,7 +14,7 @@ use Rattle.stepfile.specs.declared.write.Wish.{Wish}
 use Rattle.stepfile.specs.declared.write.Wish.the-variants.{Given, NoTable}
 use Rattle.stepfile.specs.declared.write.Written.{Written}
 use Rattle.stepfile.specs.declared.write.Wrong.{Wrong}
-use Rattle.stepfile.specs.Bytes.{bytesOf}
+use Rattle.numbers.specs.Bytes.{bytesOf}
 
 -- ---- the table or the wish for none
 abbrev pub wished : Wish → Table

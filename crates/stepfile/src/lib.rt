@@ -4,7 +4,7 @@ ghost use Prim.Native.Nat.{_+_, _<_, _≤_};
 ghost use lib.ListN.{length};
 ghost use Rattle.checks.specs.Checks.{first};
 ghost use Rattle.shift.specs.Answers.{refusal};
-ghost use Rattle.stepfile.specs.Bytes.{u16sAt};
+ghost use Rattle.numbers.specs.Bytes.{u16sAt};
 ghost use Rattle.stepfile.specs.Records.{recordOf};
 ghost use Rattle.stepfile.specs.Files.{headed, headedBy, tableIn, refusalOf, fromOffset, recordBytes};
 use limits::Table;
@@ -14,7 +14,6 @@ use shift::Reading;
 use shift::Step;
 use shift::refusal_of;
 
-mod numbers;
 pub mod write;
 
 // Refusal 1 to 4 of a file, or 0; the rule's number with 4, else 0.
@@ -48,10 +47,10 @@ fn header(file: &[u8]) -> u8
     }
     fields(
         len,
-        u16_at(file, 0),
-        u16_at(file, 2),
-        u32_at(file, 4),
-        u32_at(file, 8),
+        u16_at(file, 0) as usize,
+        u16_at(file, 2) as usize,
+        u32_at(file, 4) as usize,
+        u32_at(file, 8) as usize,
     )
 }
 
@@ -99,7 +98,7 @@ fn entries_at(file: &[u8]) -> [u16; 18]
     let mut entries = [0u16; 18];
     let mut i: usize = 0;
     while i < 18 {
-        entries[i] = u16_at(file, 12 + 2 * i) as u16;
+        entries[i] = u16_at(file, 12 + 2 * i);
         i += 1;
     }
     entries
@@ -124,7 +123,7 @@ pub fn from_offset(file: &[u8]) -> &[u8]
     if len < 12 {
         return &file[..0];
     }
-    let at = u32_at(file, 4);
+    let at = u32_at(file, 4) as usize;
     if len < at {
         return &file[..0];
     }

@@ -5,9 +5,10 @@ ghost use lib.ListN.{length, getD};
 ghost use lib.Seq.{sets};
 ghost use mathlib.Core.List.{[], _∷_};
 ghost use Rattle.limits.specs.Limits.{entries};
-ghost use Rattle.stepfile.specs.Bytes.{bytesOf};
+ghost use Rattle.numbers.specs.Bytes.{bytesOf};
 ghost use Rattle.stepfile.specs.Writing.{wished, entriesOf, headerOf, recordsOf, fileOf, sizeOf, firstWrong, refusedWith, writtenOf, bufferAfter};
 use limits::Table;
+use numbers::put;
 use shift::refusal_of;
 
 // The table to write, or the wish for none.
@@ -141,15 +142,6 @@ fn put_file(out: &mut [u8], wish: Wish, codes: &[u8], amounts: &[u32])
             put_records(out, 12, codes, amounts);
         }
     }
-}
-
-// A number of 16 bits at a place; all other bytes stay.
-fn put(out: &mut [u8], at: usize, n: u16)
-    requires { ⌜ at + 2 ≤ length (now out) ⌝ }
-    ensures { λ _. ⌜ now (out .exit) ≡ sets (now (out .entry)) at (bytesOf (n ∷ [])) ⌝ }
-{
-    out[at] = (n % 256) as u8;
-    out[at + 1] = (n / 256) as u8;
 }
 
 // The header of a file with so many entries and records, at the start.

@@ -6,7 +6,7 @@ use lib.ListN.{getD}
 use Rattle.limits.specs.declared.Table.{Table}
 use Rattle.limits.specs.Limits.{tableOf}
 use Rattle.shift.specs.declared.State.{State}
-use Rattle.stepfile.specs.Bytes.{u16sAt, u32At}
+use Rattle.numbers.specs.Bytes.{u16sAt, u32At}
 
 -- the number of 64 bits at a place
 abbrev pub u64At : List ℕ → ℕ → ℕ

@@ -4,7 +4,7 @@ ghost use Prim.Native.Nat.{_+_, _*_, _-_, _/_, _≤_};
 ghost use lib.ListN.{length};
 ghost use lib.Seq.{sets};
 ghost use Rattle.io.specs.Counts.{Counts};
-ghost use Rattle.stepfile.specs.Bytes.{u16At, u32At, u16sAt};
+ghost use Rattle.numbers.specs.Bytes.{u16At, u32At, u16sAt};
 ghost use Rattle.vectors.specs.Fields.{u64At, u32sAt, tableAt, stateIn};
 use limits::Table;
 use shift::State;

@@ -14,7 +14,7 @@ use borrow.Author.Tests.{le-leb, ne-eqb, leb-true}
 use Rattle.checks.specs.Checks.{first}
 use Rattle.checks.proofs.Tests.{case, passes, either}
 use Rattle.stepfile.specs.declared.Refusal.{Refusal}
-use Rattle.stepfile.specs.Bytes.{u16At}
+use Rattle.numbers.specs.Bytes.{u16At}
 use Rattle.stepfile.specs.Files.{headedBy, headed, tableOffset, tableEntries, recordOffset, recordCount, refusalOf}
 use Rattle.stepfile.proofs.FileLaws.{header-refused}
 use Rattle.verdict.specs.Verdicts.{unread, verdictOf}

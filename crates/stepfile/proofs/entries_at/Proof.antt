@@ -6,7 +6,7 @@ use native.Mathlib.Omega.{arith}
 use lib.ListN.{length, length-set}
 use lib.Seq.{sets}
 use borrow.Author.Needs.{needs}
-use Rattle.stepfile.specs.Bytes.{u16sAt}
+use Rattle.numbers.specs.Bytes.{u16sAt}
 use Rattle.stepfile.proofs.ByteLaws.{stored, all-stored}
 use Rattle.stepfile.proofs.entries_at.Statement.{statement}
 use Rattle.stepfile.proofs.entries_at.Tie as tie
@@ -27,7 +27,7 @@ loop-again c =
     let file = c .before .before .before .before .args .file .now in (
       omega arith,
       simp length-set (l .inv .1),
-      l .inv .2 ∙ stored (l .entries) file 18 (l .i) (c .before .loop-test .taken) ∙ rw (c .u16-at .ensures .0),
+      l .inv .2 ∙ stored (l .entries) file 18 (l .i) (c .before .loop-test .taken) ∙ rw (c .u16-at .ensures),
     )
 
 returns : tie.Need-returns Inv-loop μ-loop
@@ -45,8 +45,7 @@ entries-at-spec =
     loop-holds
     (λ c. omega arith)
     (λ c. omega arith)
-    (λ c κs. omega arith)
-    (λ c. omega arith)
+    (λ _ _. tt)
     (λ c. search needs)
     (λ c. search needs)
     (λ c. omega arith)

@@ -16,14 +16,14 @@ returns-2 : tie.Need-returns-2
 returns-2 c =
     let file = c .before .before .before .before .before .args .file .now in
     let at = c .before .before .u32-at in
-    rw (le-leb 12 (length file) (c .before .before .before .if1 .left), ← at .ensures .0)
+    rw (le-leb 12 (length file) (c .before .before .before .if1 .left), ← at .ensures)
     (sym (drop-of-length-le file {i = at .result} (omega arith)))
 
 returns-3 : tie.Need-returns-3
 returns-3 c =
     let file = c .before .before .before .before .before .args .file .now in
     let at = c .before .before .u32-at in
-    rw (le-leb 12 (length file) (c .before .before .before .if1 .left), ← at .ensures .0) (part-to-end file (at .result))
+    rw (le-leb 12 (length file) (c .before .before .before .if1 .left), ← at .ensures) (part-to-end file (at .result))
 
 pub from-offset-spec : {M : Type 1} → statement M
 from-offset-spec =
@@ -32,6 +32,7 @@ from-offset-spec =
     (λ c. search needs)
     returns
     (λ c κs. search needs)
+    (λ c. search needs)
     (λ c. search needs)
     returns-2
     (λ c. search needs)

@@ -11,10 +11,10 @@ use Rattle.stepfile.proofs.header.Tie as tie
 returns-2 : tie.Need-returns-2
 returns-2 c =
     rw (
-      ← c .before .u32-at2 .ensures .0,
-      ← c .before .before .u32-at .ensures .0,
-      ← c .before .before .before .u16-at2 .ensures .0,
-      ← c .before .before .before .before .u16-at .ensures .0,
+      ← c .before .u32-at2 .ensures,
+      ← c .before .before .u32-at .ensures,
+      ← c .before .before .before .u16-at2 .ensures,
+      ← c .before .before .before .before .u16-at .ensures,
     ) (c .fields .ensures)
 
 pub header-spec : {M : Type 1} → statement M
@@ -22,9 +22,13 @@ header-spec =
     tie.close
     (tie.spec
     (λ c. sym (refused (headed (c .before .before .args .file .now)) 0 (omega (arith, tests))))
-    (λ c κs. omega arith)
-    (λ c κs. omega arith)
-    (λ c κs. omega arith)
-    (λ c κs. omega arith)
+    (λ _ _. tt)
+    (λ c. omega arith)
+    (λ _ _. tt)
+    (λ c. omega arith)
+    (λ _ _. tt)
+    (λ c. omega arith)
+    (λ _ _. tt)
+    (λ c. omega arith)
     (λ c κs. omega arith)
     returns-2)

@@ -18,7 +18,7 @@ returns-2 : tie.Need-returns-2
 unfolding tableIn
 returns-2 c =
     let file = c .before .before .before .before .before .args .file .now in
-    let k = c .before .before .u16-at .ensures .0 in
+    let k = c .before .before .u16-at .ensures in
     rw (le-leb 48 (length file) (c .before .before .before .if1 .left), ne-eqb (tableEntries file) 18 (λ e. c .before .if2 .taken (k ∙ e)))
     (c .default2 .ensures)
 
@@ -26,7 +26,7 @@ returns-3 : tie.Need-returns-3
 unfolding tableIn
 returns-3 c =
     let file = c .before .before .before .before .before .before .args .file .now in
-    let k = c .before .before .before .u16-at .ensures .0 in
+    let k = c .before .before .before .u16-at .ensures in
     rw (
       le-leb 48 (length file) (c .before .before .before .before .if1 .left),
       eq-eqb (tableEntries file) 18 (sym k ∙ c .before .before .if2 .left),

@@ -7,7 +7,7 @@ use lib.ListN.{length}
 use lib.Seq.{sets}
 use borrow.Author.Needs.{needs}
 use Rattle.limits.specs.Limits.{entries}
-use Rattle.stepfile.specs.Bytes.{bytesOf}
+use Rattle.numbers.specs.Bytes.{bytesOf}
 use Rattle.stepfile.specs.Writing.{headerOf, recordsOf}
 use Rattle.stepfile.proofs.StoreLaws.{file-stored}
 use Rattle.stepfile.proofs.write.put_file.Statement.{statement}

@@ -6,7 +6,7 @@ use mathlib.Core.List.{[], _∷_}
 use native.Mathlib.Omega.{arith}
 use lib.ListN.{length, getD, drop}
 use lib.Seq.{sets}
-use Rattle.stepfile.specs.Bytes.{bytesOf}
+use Rattle.numbers.specs.Bytes.{bytesOf}
 use Rattle.stepfile.specs.Writing.{recordsOf}
 use Rattle.stepfile.proofs.StoreLaws.{record-stored, records-stored}
 use Rattle.stepfile.proofs.write.put_records.Statement.{statement}

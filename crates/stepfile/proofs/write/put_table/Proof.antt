@@ -6,7 +6,7 @@ use native.Mathlib.Omega.{arith}
 use lib.ListN.{length, drop}
 use lib.Seq.{sets}
 use borrow.Author.Needs.{needs}
-use Rattle.stepfile.specs.Bytes.{bytesOf}
+use Rattle.numbers.specs.Bytes.{bytesOf}
 use Rattle.stepfile.proofs.StoreLaws.{entry-stored, entries-stored}
 use Rattle.stepfile.proofs.write.put_table.Statement.{statement}
 use Rattle.stepfile.proofs.write.put_table.Tie as tie

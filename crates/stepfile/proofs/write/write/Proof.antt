@@ -11,7 +11,8 @@ use Rattle.limits.specs.Rules.{brokenRule}
 use Rattle.stepfile.specs.declared.write.Wrong.{Wrong}
 use Rattle.stepfile.specs.Writing.{wished, fileOf, sizeOf, writable, refusedWith}
 use Rattle.stepfile.proofs.WritingLaws.{size}
-use Rattle.stepfile.proofs.StoreLaws.{few, at-start}
+use Rattle.numbers.proofs.StoreLaws.{at-start}
+use Rattle.stepfile.proofs.StoreLaws.{few}
 use Rattle.stepfile.proofs.WriteLaws.{at-lists, at-record, at-room, written, amounts-small}
 use Rattle.stepfile.proofs.write.write.Statement.{statement}
 use Rattle.stepfile.proofs.write.write.Tie as tie

@@ -6,7 +6,7 @@ use native.Mathlib.Omega.{arith}
 use lib.ListN.{length, length-set}
 use lib.Seq.{sets}
 use borrow.Author.Needs.{needs}
-use Rattle.stepfile.specs.Bytes.{u16At, u16sAt}
+use Rattle.numbers.specs.Bytes.{u16At, u16sAt}
 use Rattle.vectors.specs.Fields.{numbersAt}
 use Rattle.vectors.proofs.Storing.{stored, all-stored}
 use Rattle.vectors.proofs.fields.entries_at.Statement.{statement}

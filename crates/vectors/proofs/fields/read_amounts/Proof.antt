@@ -6,7 +6,7 @@ use native.Mathlib.Nat.{sub-zero}
 use native.Mathlib.Omega.{arith}
 use lib.ListN.{length, length-set}
 use lib.Seq.{sets, length-take-le}
-use Rattle.stepfile.specs.Bytes.{u32At}
+use Rattle.numbers.specs.Bytes.{u32At}
 use Rattle.vectors.specs.Fields.{u32sAt}
 use Rattle.vectors.proofs.Storing.{stored, all-stored}
 use Rattle.vectors.proofs.fields.read_amounts.Statement.{statement}

@@ -20,3 +20,7 @@ u16sAt l i (suc n) = u16At l i ∷ u16sAt l (i + 2) n
 abbrev pub bytesOf : List ℕ → List ℕ
 bytesOf [] = []
 bytesOf (n ∷ ns) = n % 256 ∷ n / 256 ∷ bytesOf ns
+
+-- a number of 32 bits as two of 16, in front of others
+abbrev pub halves : ℕ → List ℕ → List ℕ
+halves n ns = n % 65536 ∷ n / 65536 ∷ ns

@@ -1,0 +1,3 @@
+pub mod ReadLaws
+pub mod StoreLaws
+pub mod Determined

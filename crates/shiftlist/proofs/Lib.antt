@@ -1,0 +1,11 @@
+pub mod PhaseSteps
+pub mod WalkLaws
+pub mod Extended
+pub mod CodeLaws
+pub mod StoreLaws
+pub mod LayLaws
+pub mod LaidLaws
+pub mod ListLaws
+pub mod BuildLaws
+pub mod FetchLaws
+pub mod Determined

@@ -1,0 +1,4 @@
+pub mod Shifts
+pub mod Lists
+pub mod Entries
+pub mod Walks

@@ -1,0 +1,3 @@
+pub mod TraceLaws
+pub mod CodeLaws
+pub mod Determined
