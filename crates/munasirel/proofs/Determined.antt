@@ -28,6 +28,9 @@ use Rattle.munasirel.proofs.munasirel_table.Reads as table-reads
 use Rattle.munasirel.proofs.munasirel_line.Reads as line-reads
 use Rattle.munasirel.proofs.munasirel_join.Reads as join-reads
 use Rattle.munasirel.proofs.munasirel_write.Reads as write-reads
+use Rattle.munasirel.proofs.munasirel_list.Reads as list-reads
+use Rattle.munasirel.proofs.munasirel_fetch.Reads as fetch-reads
+use Rattle.munasirel.proofs.munasirel_extend.Reads as extend-reads
 
 pub munasirel-judge : Determined judge-reads.Post
 munasirel-judge κs a x y at at′ p q = p ∙ sym q
@@ -40,6 +43,16 @@ munasirel-admit κs a x y at at′ p q = p ∙ sym q
 
 pub munasirel-table : Determined table-reads.Post
 munasirel-table κs a x y at at′ p q = p ∙ sym q
+
+pub munasirel-fetch : Determined fetch-reads.Post
+munasirel-fetch κs a x y at at′ p q = p ∙ sym q
+
+-- the buffer
+pub munasirel-list : DeterminedLent (λ κs at. now (at .1 .0)) list-reads.Post
+munasirel-list κs a x y at at′ p q = (p .0 ∙ sym (q .0), p .1 ∙ sym (q .1))
+
+pub munasirel-extend : DeterminedLent (λ κs at. now (at .0)) extend-reads.Post
+munasirel-extend κs a x y at at′ p q = (p .0 ∙ sym (q .0), p .1 ∙ sym (q .1))
 
 -- two lent things that are equal one by one are equal together
 both : {B C : Type 0} {b b′ : B} {c c′ : C} → b ≡ b′ → c ≡ c′ → _≡_ {A = B × C} (b, c) (b′, c′)

@@ -1,4 +1,4 @@
-// What a host in C calls: judging, the limit table, the line, joining, writing, and advancing a state that the host keeps.
+// What a host in C calls: judging, the limit table, the line, joining, writing, the list of shifts, and advancing a state that the host keeps.
 ghost use mathlib.Core.Path.{_≡_};
 ghost use Rattle.limits.specs.Rules.{brokenRule};
 ghost use Rattle.stepfile.specs.Files.{tableIn};
@@ -7,9 +7,15 @@ ghost use Rattle.transfer.specs.Join.{joined, bufferAfter};
 ghost use Rattle.verdict.specs.Verdicts.{verdictOf};
 ghost use Rattle.verdict.specs.Said.{lineFor};
 ghost use Rattle.gateway.specs.Advancing.{advancedOn, blockOn};
+ghost use lib.ListN.{length};
+ghost use Rattle.shiftlist.specs.Lists as listed;
+ghost use Rattle.shiftlist.specs.Lists.{builtOf, fetchOf};
+ghost use Rattle.shiftlist_extend.specs.Extending.{extendedOf, listAfter};
 ghost use Rattle.munasirel.specs.Calls.{wishOf, writtenFor, outAfter};
 use limits::Table;
 use shift::State;
+use shiftlist::Fetched;
+use shiftlist::Listed;
 use stepfile::write::Wish;
 use verdict::Verdict;
 
@@ -99,6 +105,39 @@ fn wish_of(with_table: u8, table: Table) -> Wish
         return Wish::NoTable;
     }
     Wish::Given(table)
+}
+
+// The list of a file's shifts at the start of `out`, or no byte changed.
+#[no_mangle]
+pub extern "C" fn munasirel_list(file: &[u8], out: &mut [u8]) -> Listed
+    ensures { λ r. ⌜ r ≡ builtOf (now (file .entry)) (length (now (out .entry))) ⌝ }
+    ensures { λ _. ⌜ now (out .exit) ≡ listed.bufferAfter (now (file .entry)) (now (out .entry)) ⌝ }
+{
+    shiftlist::build(file, out)
+}
+
+// The entry of a list with this number.
+#[no_mangle]
+pub extern "C" fn munasirel_fetch(list: &[u8], number: usize) -> Fetched
+    ensures { λ r. ⌜ r ≡ fetchOf (now (list .entry)) number ⌝ }
+{
+    shiftlist::fetch(list, number)
+}
+
+// Extends the list that the first `held` bytes hold by the records that follow those of its file, or changes no byte.
+#[no_mangle]
+pub extern "C" fn munasirel_extend(
+    list: &mut [u8],
+    held: usize,
+    state: State,
+    count: u32,
+    table: Table,
+    records: &[u8],
+) -> Listed
+    ensures { λ r. ⌜ r ≡ extendedOf (now (list .entry)) held state count table (now (records .entry)) ⌝ }
+    ensures { λ _. ⌜ now (list .exit) ≡ listAfter (now (list .entry)) held state count table (now (records .entry)) ⌝ }
+{
+    shiftlist_extend::extend(list, held, state, count, table, records)
 }
 
 // One record's four bytes on the lent state, which is as it was where they are refused; `excess` says how far over they are.

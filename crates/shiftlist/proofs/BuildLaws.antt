@@ -25,7 +25,7 @@ use Rattle.verdict.proofs.Judging.{read-verdict}
 use Rattle.shiftlist.specs.declared.Shift.{Shift}
 use Rattle.shiftlist.specs.declared.walk.Walk.{Walk}
 use Rattle.shiftlist.specs.declared.Listed.{Listed}
-use Rattle.shiftlist.specs.Lists.{entriesOf, headerOf, listOf, shiftsOf, sizeFor, refusedBy, fitting, afterJudge, builtOf, bufferAfter}
+use Rattle.shiftlist.specs.Lists.{entriesOf, headerOf, listOf, shiftsOf, sizeFor, listedLong, refusedBy, fitting, afterJudge, builtOf, bufferAfter}
 use Rattle.shiftlist.specs.Walks.{codedIn, idle, laidBy, requestsBy, sizeWith}
 use Rattle.shiftlist.proofs.WalkLaws.{listed, shifts-same}
 use Rattle.shiftlist.proofs.Extended.{from-rest}
@@ -95,9 +95,6 @@ module _ (f out : List ℕ) where
   abbrev Leaves : Listed → List ℕ → Type 0
   Leaves r b = (r ≡ builtOf f (length out)) × (b ≡ bufferAfter f out)
 
-  abbrev done : ℕ → Listed
-  done n = record { number = 0; rule = 0; index = 0; excess = 0; length = n }
-
   kept : (r : Listed) → ¬ (r .number ≡ 0) → r ≡ builtOf f (length out) → Leaves r out
   kept r n e =
       let other = ne-eqb (builtOf f (length out) .number) 0 (λ z. n (ap (λ (q : Listed). q .number) e ∙ z)) in
@@ -119,13 +116,13 @@ module _ (f out : List ℕ) where
     pub at-room : length out < sizeFor (shiftsOf f) → Leaves (refusedBy 15 0 0 0) out
     at-room h =
         let n = sizeFor (shiftsOf f) in
-        kept (refusedBy 15 0 0 0) (λ q. omega arith) (ap (λ b. cond b (done n) (refusedBy 15 0 0 0)) (sym (lt-leb n (length out) h)) ∙ on)
+        kept (refusedBy 15 0 0 0) (λ q. omega arith) (ap (λ b. cond b (listedLong n) (refusedBy 15 0 0 0)) (sym (lt-leb n (length out) h)) ∙ on)
 
     pub built :
-        sizeFor (shiftsOf f) ≤ length out → Leaves (done (sizeFor (shiftsOf f))) (listOf (shiftsOf f) ++ drop (sizeFor (shiftsOf f)) out)
+        sizeFor (shiftsOf f) ≤ length out → Leaves (listedLong (sizeFor (shiftsOf f))) (listOf (shiftsOf f) ++ drop (sizeFor (shiftsOf f)) out)
     built h =
         let n = sizeFor (shiftsOf f) in
-        let same : done n ≡ builtOf f (length out) = ap (λ b. cond b (done n) (refusedBy 15 0 0 0)) (sym (le-leb n (length out) h)) ∙ on in
+        let same : listedLong n ≡ builtOf f (length out) = ap (λ b. cond b (listedLong n) (refusedBy 15 0 0 0)) (sym (le-leb n (length out) h)) ∙ on in
         let zero-there = eq-eqb (builtOf f (length out) .number) 0 (ap (λ (q : Listed). q .number) (sym same)) in
         (same, ap (λ b. cond b (listOf (shiftsOf f) ++ drop n out) out) (sym zero-there))
 
@@ -135,12 +132,12 @@ module _ (f out : List ℕ) where
 
     pub was-laid :
         sizeWith out 8 begin 0 (fromOffset f) ≤ length out
-        → Leaves (done (sizeWith out 8 begin 0 (fromOffset f))) (laid out 8 begin 0 (fromOffset f))
+        → Leaves (listedLong (sizeWith out 8 begin 0 (fromOffset f))) (laid out 8 begin 0 (fromOffset f))
     was-laid h =
         let n = sizeWith out 8 begin 0 (fromOffset f) in
         let e = size-laid f z out in
         let k = built (omega (arith, h, e)) in (
-          ap done e ∙ k .0,
+          ap listedLong e ∙ k .0,
           ap (λ es. sets (sets out 0 (bytesOf (headerOf ((n - 8) / 16)))) 8 (bytesOf (entriesOf es))) (laid-is-the-list f z)
               ∙ list-stored out n (shiftsOf f) e h
               ∙ k .1,

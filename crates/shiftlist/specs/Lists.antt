@@ -41,14 +41,17 @@ shiftsOf f = shiftsFrom 0 start (readingsOf f)
 abbrev pub sizeFor : List Shift → ℕ
 sizeFor es = 8 + 16 * length es
 
+-- a list of this length
+abbrev pub listedLong : ℕ → Listed
+listedLong n = record { number = 0; rule = 0; index = 0; excess = 0; length = n }
+
 -- refused, with what the judge says of it
 abbrev pub refusedBy : ℕ → ℕ → ℕ → ℕ → Listed
 refusedBy number rule index excess = record { number = number; rule = rule; index = index; excess = excess; length = 0 }
 
 -- a list of this size in a buffer with so much room
 abbrev pub fitting : ℕ → ℕ → Listed
-fitting size room =
-    cond (leb size room) (record { number = 0; rule = 0; index = 0; excess = 0; length = size }) (refusedBy 15 0 0 0)
+fitting size room = cond (leb size room) (listedLong size) (refusedBy 15 0 0 0)
 
 -- the judge's own refusal first
 abbrev pub afterJudge : Verdict → Listed → Listed

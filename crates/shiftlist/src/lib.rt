@@ -1,7 +1,7 @@
 // The list of a step file's shifts: built beside the file, and fetched from without it.
 ghost use mathlib.Core.Path.{_≡_};
 ghost use lib.ListN.{length};
-ghost use Rattle.shiftlist.specs.Lists.{refusedBy, builtOf, bufferAfter, shiftAt, noShift, fetchOf};
+ghost use Rattle.shiftlist.specs.Lists.{listedLong, refusedBy, builtOf, bufferAfter, shiftAt, noShift, fetchOf};
 use numbers::byte_at;
 use numbers::u16_at;
 use numbers::u32_at;
@@ -33,6 +33,34 @@ pub struct Listed {
     pub length: usize,
 }
 
+impl Listed {
+    // A list of this length.
+    pub fn long(length: usize) -> Listed
+        ensures { λ r. ⌜ r ≡ listedLong length ⌝ }
+    {
+        Listed {
+            number: 0,
+            rule: 0,
+            index: 0,
+            excess: 0,
+            length,
+        }
+    }
+
+    // None.
+    pub fn refused(number: u8, rule: u8, index: usize, excess: u64) -> Listed
+        ensures { λ r. ⌜ r ≡ refusedBy number rule index excess ⌝ }
+    {
+        Listed {
+            number,
+            rule,
+            index,
+            excess,
+            length: 0,
+        }
+    }
+}
+
 // Number 0 and the entry; or the number that refuses it, and an entry of zeros.
 #[repr(C)]
 pub struct Fetched {
@@ -48,7 +76,7 @@ pub fn build(file: &[u8], out: &mut [u8]) -> Listed
     let verdict = verdict::judge(file);
     let number = verdict.number;
     if number != 0 {
-        return refuse(number, verdict.rule, verdict.index, verdict.excess);
+        return Listed::refused(number, verdict.rule, verdict.index, verdict.excess);
     }
     // No shift in hand, at the start.
     let walk = Walk {
@@ -62,27 +90,9 @@ pub fn build(file: &[u8], out: &mut [u8]) -> Listed
     };
     let size = lay::lay(out, 8, walk, 0, stepfile::from_offset(file));
     if size == 0 {
-        return refuse(15, 0, 0, 0);
+        return Listed::refused(15, 0, 0, 0);
     }
-    Listed {
-        number: 0,
-        rule: 0,
-        index: 0,
-        excess: 0,
-        length: size,
-    }
-}
-
-fn refuse(number: u8, rule: u8, index: usize, excess: u64) -> Listed
-    ensures { λ r. ⌜ r ≡ refusedBy number rule index excess ⌝ }
-{
-    Listed {
-        number,
-        rule,
-        index,
-        excess,
-        length: 0,
-    }
+    Listed::long(size)
 }
 
 // The entry of a list with this number: 1 for a list under 8 bytes, 2 for its offset, 3 for its length, 14 at or past its count.

@@ -88,7 +88,7 @@ fn end_of(phase: u8) -> u8
 }
 
 // Clock minus request time, 0 where the request lies ahead.
-fn age_of(clock: u32, time: u32) -> u32
+pub fn age_of(clock: u32, time: u32) -> u32
     ensures { λ r. ⌜ r ≡ clock - time ⌝ }
 {
     if clock < time {

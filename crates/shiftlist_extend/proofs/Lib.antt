@@ -1,0 +1,3 @@
+pub mod GroundLaws
+pub mod ExtendLaws
+pub mod Determined

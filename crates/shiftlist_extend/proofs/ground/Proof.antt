@@ -1,0 +1,113 @@
+-- `ground` meets its contract: one return for each check.
+-- Assumes nothing.
+use mathlib.Core.Path.{sym, ap, _∙_}
+use mathlib.Core.Bool.{true, false}
+use Prim.Native.Nat.{_-_}
+use native.Mathlib.Omega.{arith}
+use lib.ListN.{length}
+use borrow.Author.Needs.{needs}
+use borrow.Author.Tests.{not-true, not-false}
+use Rattle.checks.proofs.Checks.{refused}
+use Rattle.checks.proofs.Tests.{tests}
+use Rattle.numbers.specs.Bytes.{u32At}
+use Rattle.shiftlist.specs.declared.Shift.{Shift}
+use Rattle.shiftlist.specs.Lists.{shiftAt}
+use Rattle.shiftlist_extend.specs.Extending.{fits, groundsBy}
+use Rattle.shiftlist_extend.proofs.GroundLaws.{last-ground}
+use Rattle.shiftlist_extend.proofs.ground.Statement.{statement}
+use Rattle.shiftlist_extend.proofs.ground.Tie as tie
+
+returns : tie.Need-returns
+returns c =
+    let a = c .before .before .args in
+    let l = a .list .now in
+    sym (refused (groundsBy (length l) (a .held) (u32At l 4) (u32At l 0) (shiftAt l (a .held - 16)) (a .state) (a .count) (a .more) (a .rule)) 0 (omega (arith, tests)))
+
+returns-2 : tie.Need-returns-2
+returns-2 c =
+    let a = c .before .before .before .args in
+    let l = a .list .now in
+    sym (refused (groundsBy (length l) (a .held) (u32At l 4) (u32At l 0) (shiftAt l (a .held - 16)) (a .state) (a .count) (a .more) (a .rule)) 1 (omega (arith, tests)))
+
+returns-3 : tie.Need-returns-3
+returns-3 c =
+    let a = c .before .before .before .before .before .args in
+    let l = a .list .now in
+    sym (refused (groundsBy (length l) (a .held) (u32At l 4) (u32At l 0) (shiftAt l (a .held - 16)) (a .state) (a .count) (a .more) (a .rule)) 2 (omega (arith, tests, c .before .u32-at .ensures)))
+
+returns-4 : tie.Need-returns-4
+returns-4 c =
+    let a = c .before .before .before .before .before .before .before .args in
+    let l = a .list .now in
+    sym (refused (groundsBy (length l) (a .held) (u32At l 4) (u32At l 0) (shiftAt l (a .held - 16)) (a .state) (a .count) (a .more) (a .rule)) 3 (omega (arith, tests, c .before .before .before .u32-at .ensures, c .before .u32-at2 .ensures)))
+
+returns-5 : tie.Need-returns-5
+returns-5 c =
+    let a = c .before .before .before .before .before .before .before .before .args in
+    let l = a .list .now in
+    sym (refused (groundsBy (length l) (a .held) (u32At l 4) (u32At l 0) (shiftAt l (a .held - 16)) (a .state) (a .count) (a .more) (a .rule)) 4 (omega (arith, tests, c .before .before .before .before .u32-at .ensures, c .before .before .u32-at2 .ensures)))
+
+returns-6 : tie.Need-returns-6
+returns-6 c =
+    let a = c .before .before .before .before .before .before .before .before .before .args in
+    let l = a .list .now in
+    sym (refused (groundsBy (length l) (a .held) (u32At l 4) (u32At l 0) (shiftAt l (a .held - 16)) (a .state) (a .count) (a .more) (a .rule)) 5 (omega (arith, tests, c .before .before .before .before .before .u32-at .ensures, c .before .before .before .u32-at2 .ensures)))
+
+returns-7 : tie.Need-returns-7
+returns-7 c =
+    let a = c .before .before .before .before .before .before .before .before .before .before .args in
+    let l = a .list .now in
+    sym (refused (groundsBy (length l) (a .held) (u32At l 4) (u32At l 0) (shiftAt l (a .held - 16)) (a .state) (a .count) (a .more) (a .rule)) 6 (omega (arith, tests, c .before .before .before .before .before .before .u32-at .ensures, c .before .before .before .before .u32-at2 .ensures)))
+
+returns-8 : tie.Need-returns-8
+returns-8 c =
+    let n = c .before .before .before .before in
+    let a = n .before .before .before .before .before .before .before .before .before .before .args in
+    let l = a .list .now in
+    let offset = n .before .before .before .before .before .before .u32-at .ensures in
+    let shifts = n .before .before .before .before .u32-at2 .ensures in
+    let last = c .before .before .shift-at .ensures ∙ ap (shiftAt l) (c .before .before .before .less .ensures) in
+    let fit =
+    sym (c .before .does-fit .ensures ∙ ap (λ k. fits k (c .before .before .shift-at .result) (a .state) (a .count)) shifts ∙ ap (λ (e : Shift). fits (u32At l 0) e (a .state) (a .count)) last)
+    ∙ not-true (c .before .does-fit .result) (c .if8 .taken)
+    in
+    last-ground (length l) (a .held) (u32At l 4) (u32At l 0) (shiftAt l (a .held - 16)) (a .state) (a .count) (a .more) (a .rule) (omega arith) (omega arith)
+    (omega (arith, offset)) (omega (arith, shifts, n .before .before .before .if4 .left)) (omega (arith, n .before .before .if5 .left)) (omega (arith, shifts, n .before .if6 .left)) (omega arith) false fit
+
+returns-9 : tie.Need-returns-9
+returns-9 c =
+    let n = c .before .before .before .before in
+    let a = n .before .before .before .before .before .before .before .before .before .before .args in
+    let l = a .list .now in
+    let offset = n .before .before .before .before .before .before .u32-at .ensures in
+    let shifts = n .before .before .before .before .u32-at2 .ensures in
+    let last = c .before .before .shift-at .ensures ∙ ap (shiftAt l) (c .before .before .before .less .ensures) in
+    let fit =
+    sym (c .before .does-fit .ensures ∙ ap (λ k. fits k (c .before .before .shift-at .result) (a .state) (a .count)) shifts ∙ ap (λ (e : Shift). fits (u32At l 0) e (a .state) (a .count)) last)
+    ∙ not-false (c .before .does-fit .result) (c .if8 .left)
+    in
+    last-ground (length l) (a .held) (u32At l 4) (u32At l 0) (shiftAt l (a .held - 16)) (a .state) (a .count) (a .more) (a .rule) (omega arith) (omega arith)
+    (omega (arith, offset)) (omega (arith, shifts, n .before .before .before .if4 .left)) (omega (arith, n .before .before .if5 .left)) (omega (arith, shifts, n .before .if6 .left)) (omega arith) true fit
+
+pub ground-spec : {M : Type 1} → statement M
+ground-spec =
+    tie.close
+    (tie.spec
+    returns
+    returns-2
+    (λ _ _. tt)
+    returns-3
+    (λ _ _. tt)
+    (λ c. search needs)
+    (λ c. search needs)
+    (λ c. search needs)
+    returns-4
+    (λ c. search needs)
+    returns-5
+    returns-6
+    returns-7
+    (λ _ _. tt)
+    (λ _ _. tt)
+    (λ _ _. tt)
+    returns-8
+    returns-9)
