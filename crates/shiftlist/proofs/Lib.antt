@@ -9,3 +9,6 @@ pub mod ListLaws
 pub mod BuildLaws
 pub mod FetchLaws
 pub mod Determined
+pub mod RequestLaws
+pub mod TakenLaws
+pub mod EntryLaws
