@@ -12,3 +12,5 @@ pub mod Determined
 pub mod RequestLaws
 pub mod TakenLaws
 pub mod EntryLaws
+pub mod WidthLaws
+pub mod Files
