@@ -14,3 +14,4 @@ pub mod TakenLaws
 pub mod EntryLaws
 pub mod WidthLaws
 pub mod Files
+pub mod Refusals
