@@ -55,7 +55,7 @@ module _ (l : List ℕ) (p : ℕ) where
   at j k e = sym (getD-drop p l k 0 ∙ ap (λ m. getD l m 0) e)
 
   -- an entry is read alike in what stands from its place on
-  shift-dropped : shiftAt l p ≡ shiftAt (drop p l) 0
+  pub shift-dropped : shiftAt l p ≡ shiftAt (drop p l) 0
   shift-dropped =
       rw (
         at p 0 (omega arith),
@@ -75,8 +75,8 @@ module _ (l : List ℕ) (p : ℕ) where
         at (p + 12 + 2 + 1) 15 (omega arith),
       )
 
-shift-read : (e : Shift) (ns : List ℕ) → Fits e → shiftAt (bytesOf (numbersOf e ++ ns)) 0 ≡ e
-shift-read e ns f =
+pub shift-read : (e : Shift) (bs : List ℕ) → Fits e → shiftAt (bytesOf (numbersOf e) ++ bs) 0 ≡ e
+shift-read e bs f =
     let a : e .first % 256 + 256 * (e .first / 256) ≡ e .first = omega arith in
     let b : e .last % 256 + 256 * (e .last / 256) ≡ e .last = omega arith in
     let c : (e .kind + 256 * e .route) % 256 ≡ e .kind = omega (arith, f .kind) in
@@ -113,4 +113,4 @@ module _ (es : List Shift) (many : length es < 4294967296) where
       in
       ap (λ k. found k (shiftAt l (8 + 16 * i))) (holds→first (fetchable (length l) (u32At l 4) (u32At l 0) i) (omega (arith, tests, list-long es, count-read, o)))
       ∙ ap (λ (q : Shift). record { number = 0; shift = q })
-      (shift-dropped l (8 + 16 * i) ∙ ap (λ m. shiftAt m 0) there ∙ shift-read e (entriesOf (drop (suc i) es)) f)
+      (shift-dropped l (8 + 16 * i) ∙ ap (λ m. shiftAt m 0) there ∙ shift-read e (bytesOf (entriesOf (drop (suc i) es))) f)

@@ -60,7 +60,7 @@ no-longer : (k n : ℕ) (e : Shift) (es : List Shift) → length es ≤ n → le
 no-longer zero n e es h = omega arith
 no-longer (suc k) n e es h = omega arith
 
-no-more-than-records : (i : ℕ) (s : State) (rs : List Reading) → length (shiftsFrom i s rs) ≤ length rs
+pub no-more-than-records : (i : ℕ) (s : State) (rs : List Reading) → length (shiftsFrom i s rs) ≤ length rs
 no-more-than-records i s [] = omega arith
 no-more-than-records i s (r ∷ rs) =
     no-longer (kindOf r) (length rs) (whole (begun (kindOf r) i (s .clock)) (suc i) (led s r) rs) (shiftsFrom (suc i) (led s r) rs)

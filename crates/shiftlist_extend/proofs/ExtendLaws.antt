@@ -43,7 +43,7 @@ same-trace true s e u = rw u
 same-trace false s e u = rw u
 
 -- in the midst of a shift no shift is over
-still-open : (p : ℕ) → T (unfinished p) → endOf p ≡ 0
+pub still-open : (p : ℕ) → T (unfinished p) → endOf p ≡ 0
 still-open p u = let i = unfinished-in p u in rw (ne-eqb p 22 (λ e. omega arith), ne-eqb p 23 (λ e. omega arith))
 
 held-entry : (s : State) (e : Shift) → unfinished (s .phase) ≡ true → e .end ≡ 0 → e .age ≡ s .clock - e .«request_time» → inHand (resumedOn s e) ≡ e

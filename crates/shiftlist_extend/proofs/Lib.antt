@@ -1,3 +1,9 @@
 pub mod GroundLaws
 pub mod ExtendLaws
+pub mod RequestTimes
+pub mod RelaidLaws
+pub mod AppendedLaws
+pub mod EndLaws
+pub mod FreshLaws
+pub mod Fresh
 pub mod Determined
