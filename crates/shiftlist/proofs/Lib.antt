@@ -12,6 +12,7 @@ pub mod Determined
 pub mod RequestLaws
 pub mod TakenLaws
 pub mod EntryLaws
+pub mod OneList
 pub mod WidthLaws
 pub mod Files
 pub mod Refusals

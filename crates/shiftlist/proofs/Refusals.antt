@@ -23,13 +23,20 @@ use Rattle.verdict.proofs.Refusals.{judge-answers}
 use Rattle.shiftlist.specs.declared.Listed.{Listed}
 use Rattle.shiftlist.specs.declared.Fetched.{Fetched}
 use Rattle.shiftlist.specs.Lists.{listOf, shiftsOf, sizeFor, refusedBy, builtOf, bufferAfter, shiftAt, fetchable, found, fetchOf}
-use Rattle.shiftlist.specs.Refusals.{Accepted, ListTakes, BuildAnswers, fetchRefusals, BytesSay, FetchAnswers}
+use Rattle.shiftlist.specs.Refusals.{zeros, Accepted, ListTakes, BuildAnswers, fetchRefusals, BytesSay, FetchAnswers}
 use Rattle.shiftlist.proofs.BuildLaws.{at-judge, at-room, built}
 use Rattle.shiftlist.proofs.EntryLaws.{the-entries}
+use Rattle.shiftlist.proofs.OneList.{no-other-list}
 use Rattle.shiftlist.proofs.build.Reads as build-reads
 use Rattle.shiftlist.proofs.fetch.Reads as fetch-reads
 
 -- ---- building
+-- the size of a file's list is one, whichever list of the entries it is read from
+pub the-list-takes-one-size : (f : List ℕ) (m n : ℕ) → ListTakes f m → ListTakes f n → m ≡ n
+the-list-takes-one-size f m n x y =
+    let same = ap length (no-other-list start (readingsOf f) (x .shifts) (y .shifts) zeros (x .entries) (y .entries)) in
+    omega (arith, x .bytes, y .bytes, same)
+
 module _ (f out : List ℕ) where
   abbrev v : Verdict
   v = verdictOf f
