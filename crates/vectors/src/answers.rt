@@ -4,8 +4,9 @@ ghost use lib.ListN.{length};
 use crate::fields::read_amounts;
 use crate::fields::state_in;
 use crate::fields::table_at;
-use crate::fields::u32_at;
 use crate::fields::usize_at;
+use numbers::byte_at;
+use numbers::u32_at;
 use printing::number;
 use printing::number8;
 use printing::number64;
@@ -14,24 +15,20 @@ use stepfile::write::Wish;
 use stepfile::write::Written;
 use verdict::Verdict;
 
-pub(crate) fn admit(a: &[u8])
-    requires { ⌜ 36 ≤ length (now a) ⌝ }
-{
+pub(crate) fn admit(a: &[u8]) {
     number8(table_at(a, 0).broken_rule());
 }
 
-pub(crate) fn step(a: &[u8])
-    requires { ⌜ 61 ≤ length (now a) ⌝ }
-{
-    print_answer(state_in(a).step(table_at(a, 0), a[56], u32_at(a, 57)));
+pub(crate) fn step(a: &[u8]) {
+    print_answer(state_in(a).step(table_at(a, 0), byte_at(a, 56), u32_at(a, 57)));
 }
 
-pub(crate) fn advance(a: &[u8])
-    requires { ⌜ 60 ≤ length (now a) ⌝ }
-{
+pub(crate) fn advance(a: &[u8]) {
     let state = state_in(a);
     let table = table_at(a, 0);
-    print_answer(gateway::advanced(state, table, a[56], a[57], a[58], a[59]));
+    let code = byte_at(a, 56);
+    let middle = byte_at(a, 57);
+    print_answer(gateway::advanced(state, table, code, middle, byte_at(a, 58), byte_at(a, 59)));
 }
 
 fn print_answer(answer: Answer) {
@@ -68,9 +65,7 @@ pub(crate) fn line(file: &[u8], out: &mut [u8]) {
     printing::bytes(out);
 }
 
-pub(crate) fn join(a: &[u8], part: &[u8], buffer: &mut [u8])
-    requires { ⌜ 16 ≤ length (now a) ⌝ }
-{
+pub(crate) fn join(a: &[u8], part: &[u8], buffer: &mut [u8]) {
     let joined = transfer::join(buffer, usize_at(a, 0), usize_at(a, 8), part);
     number8(joined.number);
     number(joined.held);
@@ -78,7 +73,7 @@ pub(crate) fn join(a: &[u8], part: &[u8], buffer: &mut [u8])
 }
 
 pub(crate) fn write(a: &[u8], codes: &[u8], out: &mut [u8])
-    requires { ⌜ (37 ≤ length (now a)) × (length (now a) ≤ 66000) ⌝ }
+    requires { ⌜ length (now a) ≤ 66000 ⌝ }
 {
     let mut amounts = [0u32; 16491];
     let count = read_amounts(a, &mut amounts);
@@ -87,10 +82,8 @@ pub(crate) fn write(a: &[u8], codes: &[u8], out: &mut [u8])
 }
 
 // The first byte is 0 for the wish for none.
-fn wish_in(a: &[u8]) -> Wish
-    requires { ⌜ 37 ≤ length (now a) ⌝ }
-{
-    if a[0] == 0 {
+fn wish_in(a: &[u8]) -> Wish {
+    if byte_at(a, 0) == 0 {
         return Wish::NoTable;
     }
     Wish::Given(table_at(a, 1))
@@ -103,14 +96,10 @@ fn print_written(written: Written) {
     number(written.length);
 }
 
-pub(crate) fn manual(a: &[u8], records: &[u8])
-    requires { ⌜ 36 ≤ length (now a) ⌝ }
-{
+pub(crate) fn manual(a: &[u8], records: &[u8]) {
     engines::print(table_at(a, 0), records);
 }
 
-pub(crate) fn block(a: &[u8], records: &[u8])
-    requires { ⌜ 56 ≤ length (now a) ⌝ }
-{
+pub(crate) fn block(a: &[u8], records: &[u8]) {
     print_verdict(gateway::advanced_block(state_in(a), table_at(a, 0), records));
 }

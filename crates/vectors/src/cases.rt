@@ -6,9 +6,10 @@ ghost use lib.ListN.{length};
 ghost use Rattle.io.specs.Counts.{Counts};
 ghost use Rattle.vectors.specs.Cases.{sized};
 use crate::answers;
-use crate::fields::u32_at;
 use libc::STDIN_FILENO;
 use libc::STDOUT_FILENO;
+use numbers::byte_at;
+use numbers::u32_at;
 
 const END: u8 = 0;
 
@@ -53,10 +54,8 @@ fn without_fields(kind: u8) -> Head {
     }
 }
 
-fn head_of(bytes: &[u8]) -> Head
-    requires { ⌜ 13 ≤ length (now bytes) ⌝ }
-{
-    let kind = bytes[0];
+fn head_of(bytes: &[u8]) -> Head {
+    let kind = byte_at(bytes, 0);
     let a = u32_at(bytes, 1);
     let b = u32_at(bytes, 5);
     let c = u32_at(bytes, 9);

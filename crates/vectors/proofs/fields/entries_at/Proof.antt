@@ -1,4 +1,5 @@
--- `entries_at` meets its contract. The loop's invariant: with what is still to be stored, the entries are those of the field.
+-- `entries_at` meets its contract: zeros behind the end. The loop's invariant: with what is still to be stored, the entries are those of
+-- the field.
 -- Assumes nothing.
 use Prim.Native.Nat.{_+_, _*_, _-_, _≤_}
 use mathlib.Core.Path.{_≡_, refl, sym, _∙_}
@@ -8,6 +9,7 @@ use lib.Seq.{sets}
 use borrow.Author.Needs.{needs}
 use Rattle.numbers.specs.Bytes.{u16At, u16sAt}
 use Rattle.vectors.specs.Fields.{numbersAt}
+use Rattle.vectors.proofs.ReadLaws.{no-u16s}
 use Rattle.vectors.proofs.Storing.{stored, all-stored}
 use Rattle.vectors.proofs.fields.entries_at.Statement.{statement}
 use Rattle.vectors.proofs.fields.entries_at.Tie as tie
@@ -25,7 +27,7 @@ abbrev μ-loop : tie.MeasureT-loop
 loop-again : tie.Need-loop-again Inv-loop μ-loop
 loop-again c =
     let l = c .before .before .loop in
-    let bytes = c .before .before .before .before .args .bytes .now in (
+    let bytes = c .before .before .before .before .before .args .bytes .now in (
       omega arith,
       omega arith,
       simp length-set (l .inv .2),
@@ -33,9 +35,12 @@ loop-again c =
     )
 
 returns : tie.Need-returns Inv-loop μ-loop
-returns c =
+returns c = let a = c .before .before .args in no-u16s (a .bytes .now) (a .at) 18 (c .if1 .taken)
+
+returns-2 : tie.Need-returns-2 Inv-loop μ-loop
+returns-2 c =
     let l = c .before .loop in
-    let bytes = c .before .before .before .args .bytes .now in
+    let bytes = c .before .before .before .before .args .bytes .now in
     sym (l .inv .3 ∙ all-stored (u16At bytes) 2 (l .from) 18 (l .i) (l .entries) (c .loop-test .left))
 
 pub entries-at-spec : {M : Type 1} → statement M
@@ -44,12 +49,13 @@ entries-at-spec =
     (tie.spec
     Inv-loop
     μ-loop
+    returns
     (λ c. (omega arith, omega arith, refl, refl))
-    (λ c κs. omega arith)
+    (λ c κs. tt)
     (λ c. search needs)
     (λ c. search needs)
     (λ c. omega arith)
     (λ c. omega arith)
     (λ c. omega arith)
     loop-again
-    returns)
+    returns-2)

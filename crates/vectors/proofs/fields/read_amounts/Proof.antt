@@ -16,7 +16,7 @@ abbrev Inv-loop : tie.InvT-loop
 Inv-loop bytes amounts₀ from₀ count₀ amounts from count =
     let n = (length bytes - 37) / 4 in
     (from ≡ 37 + 4 * count)
-    × (from ≤ length bytes)
+    × (4 * count ≤ length bytes - 37)
     × (length amounts ≡ length amounts₀)
     × (sets amounts₀ 0 (u32sAt bytes 37 n) ≡ sets amounts count (u32sAt bytes from (n - count)))
 
