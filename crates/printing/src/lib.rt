@@ -19,7 +19,7 @@ pub fn number32(n: u32) {
     number(n as usize);
 }
 
-fn number16(n: u16) {
+pub fn number16(n: u16) {
     number(n as usize);
 }
 

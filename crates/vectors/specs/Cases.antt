@@ -20,6 +20,8 @@ lengths a b c =
     ∷ (leb 37 a && leb a 66000 && eqb (a % 4) 1)
     ∷ (eqb a 36 && eqb (b % 4) 0 && eqb c 0)
     ∷ (eqb a 56 && eqb c 0)
+    ∷ eqb a 0
+    ∷ (eqb a 8 && eqb c 0)
     ∷ []
 
 abbrev pub sized : ℕ → ℕ → ℕ → ℕ → Bool

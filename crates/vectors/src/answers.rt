@@ -103,3 +103,11 @@ pub(crate) fn manual(a: &[u8], records: &[u8]) {
 pub(crate) fn block(a: &[u8], records: &[u8]) {
     print_verdict(gateway::advanced_block(state_in(a), table_at(a, 0), records));
 }
+
+pub(crate) fn list(file: &[u8], out: &mut [u8]) {
+    listing::build(file, out);
+}
+
+pub(crate) fn fetch(a: &[u8], list: &[u8]) {
+    listing::fetch(list, usize_at(a, 0));
+}

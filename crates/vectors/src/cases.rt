@@ -13,9 +13,9 @@ use numbers::u32_at;
 
 const END: u8 = 0;
 
-const NO_CASE: u8 = 11;
+const NO_CASE: u8 = 13;
 
-// A case's kind, 1 to 10, and the lengths of its fields; or that the input has ended, or that no case is there.
+// A case's kind, 1 to 12, and the lengths of its fields; or that the input has ended, or that no case is there.
 struct Head {
     kind: u8,
     a: usize,
@@ -59,7 +59,7 @@ fn head_of(bytes: &[u8]) -> Head {
     let a = u32_at(bytes, 1);
     let b = u32_at(bytes, 5);
     let c = u32_at(bytes, 9);
-    if (kind < 1) | (10 < kind) | (66000 < a) | (66000 < b) | (66000 < c) {
+    if (kind < 1) | (12 < kind) | (66000 < a) | (66000 < b) | (66000 < c) {
         return without_fields(NO_CASE);
     }
     Head {
@@ -120,17 +120,19 @@ fn is_sized(kind: u8, a: usize, b: usize, c: usize) -> bool
         8 => (37 <= a) & (a <= 66000) & (a % 4 == 1),
         9 => (a == 36) & (b % 4 == 0) & (c == 0),
         10 => (a == 56) & (c == 0),
+        11 => a == 0,
+        12 => (a == 8) & (c == 0),
         _ => false,
     }
 }
 
 // Each word stands at eight times its kind.
 fn word(kind: u8) {
-    if 10 < kind {
+    if 12 < kind {
         return;
     }
     let words =
-        b"        admit   step    advance read    judge   line    join    write   manual  block   ";
+        b"        admit   step    advance read    judge   line    join    write   manual  block   list    fetch   ";
     let from = 8 * (kind as usize);
     write_part(words, from, from + letters(kind));
 }
@@ -151,6 +153,7 @@ fn letters(kind: u8) -> usize
         8 => 5,
         9 => 6,
         10 => 5,
+        12 => 5,
         _ => 4,
     }
 }
@@ -170,6 +173,8 @@ fn print_rest(kind: u8, a: &[u8], b: &[u8], c: &mut [u8])
         8 => answers::write(a, b, c),
         9 => answers::manual(a, b),
         10 => answers::block(a, b),
+        11 => answers::list(b, c),
+        12 => answers::fetch(a, b),
         _ => {}
     }
 }

@@ -23,6 +23,8 @@ is-sized-spec =
     (λ c. rw (c .match .keys9))
     (λ c. rw (c .match .keys10))
     (λ c. rw (c .match .keys11))
+    (λ c. rw (c .match .keys12))
+    (λ c. rw (c .match .keys13))
     (λ c.
     let a = c .before .args in
-    sym (List·getD-eq-default (lengths (a .a) (a .b) (a .c)) false (past-arms 11 (a .kind) (c .match .rest)))))
+    sym (List·getD-eq-default (lengths (a .a) (a .b) (a .c)) false (past-arms 13 (a .kind) (c .match .rest)))))

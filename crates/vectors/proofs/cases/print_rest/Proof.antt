@@ -28,6 +28,8 @@ print-rest-spec =
     write-requires
     (λ c κs. tt)
     (λ c κs. tt)
+    (λ c κs. tt)
+    (λ c κs. tt)
     (λ c. tt)
     (λ c. tt)
     (λ c. tt)
@@ -39,6 +41,9 @@ print-rest-spec =
     (λ c. tt)
     (λ c. search needs)
     (λ c. tt)
+    (λ c. tt)
+    (λ c. tt)
+    (λ c. search needs)
     (λ c. tt)
     (λ c. tt)
     (λ c. tt))
