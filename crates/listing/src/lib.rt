@@ -1,9 +1,11 @@
-// What a case of a list of shifts is answered by: the line behind its word, of a list that is built or fetched from.
+// What a case of a list of shifts is answered by: the line behind its word, of a list that is built, fetched from or extended.
+use limits::Table;
 use printing::number;
 use printing::number8;
 use printing::number16;
 use printing::number32;
 use printing::number64;
+use shift::State;
 use shiftlist::Fetched;
 use shiftlist::Listed;
 
@@ -36,4 +38,17 @@ fn print_fetched(fetched: Fetched) {
     number8(shift.end);
     number32(shift.request_time);
     number32(shift.age);
+}
+
+// A list that is extended by records, from a state and a count of records under a table.
+pub fn extend(
+    list: &mut [u8],
+    held: usize,
+    state: State,
+    count: u32,
+    table: Table,
+    records: &[u8],
+) {
+    print_listed(shiftlist_extend::extend(list, held, state, count, table, records));
+    printing::bytes(list);
 }

@@ -22,6 +22,7 @@ lengths a b c =
     ∷ (eqb a 56 && eqb c 0)
     ∷ eqb a 0
     ∷ (eqb a 8 && eqb c 0)
+    ∷ eqb a 68
     ∷ []
 
 abbrev pub sized : ℕ → ℕ → ℕ → ℕ → Bool

@@ -111,3 +111,11 @@ pub(crate) fn list(file: &[u8], out: &mut [u8]) {
 pub(crate) fn fetch(a: &[u8], list: &[u8]) {
     listing::fetch(list, usize_at(a, 0));
 }
+
+pub(crate) fn extend(a: &[u8], records: &[u8], list: &mut [u8]) {
+    let held = usize_at(a, 56);
+    let state = state_in(a);
+    let count = u32_at(a, 64);
+    let table = table_at(a, 0);
+    listing::extend(list, held, state, count, table, records);
+}

@@ -13,9 +13,9 @@ use numbers::u32_at;
 
 const END: u8 = 0;
 
-const NO_CASE: u8 = 13;
+const NO_CASE: u8 = 14;
 
-// A case's kind, 1 to 12, and the lengths of its fields; or that the input has ended, or that no case is there.
+// A case's kind, 1 to 13, and the lengths of its fields; or that the input has ended, or that no case is there.
 struct Head {
     kind: u8,
     a: usize,
@@ -59,7 +59,7 @@ fn head_of(bytes: &[u8]) -> Head {
     let a = u32_at(bytes, 1);
     let b = u32_at(bytes, 5);
     let c = u32_at(bytes, 9);
-    if (kind < 1) | (12 < kind) | (66000 < a) | (66000 < b) | (66000 < c) {
+    if (kind < 1) | (13 < kind) | (66000 < a) | (66000 < b) | (66000 < c) {
         return without_fields(NO_CASE);
     }
     Head {
@@ -122,17 +122,18 @@ fn is_sized(kind: u8, a: usize, b: usize, c: usize) -> bool
         10 => (a == 56) & (c == 0),
         11 => a == 0,
         12 => (a == 8) & (c == 0),
+        13 => a == 68,
         _ => false,
     }
 }
 
 // Each word stands at eight times its kind.
 fn word(kind: u8) {
-    if 12 < kind {
+    if 13 < kind {
         return;
     }
     let words =
-        b"        admit   step    advance read    judge   line    join    write   manual  block   list    fetch   ";
+        b"        admit   step    advance read    judge   line    join    write   manual  block   list    fetch   extend  ";
     let from = 8 * (kind as usize);
     write_part(words, from, from + letters(kind));
 }
@@ -154,6 +155,7 @@ fn letters(kind: u8) -> usize
         9 => 6,
         10 => 5,
         12 => 5,
+        13 => 6,
         _ => 4,
     }
 }
@@ -175,6 +177,7 @@ fn print_rest(kind: u8, a: &[u8], b: &[u8], c: &mut [u8])
         10 => answers::block(a, b),
         11 => answers::list(b, c),
         12 => answers::fetch(a, b),
+        13 => answers::extend(a, b, c),
         _ => {}
     }
 }

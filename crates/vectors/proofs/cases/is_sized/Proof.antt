@@ -25,6 +25,7 @@ is-sized-spec =
     (λ c. rw (c .match .keys11))
     (λ c. rw (c .match .keys12))
     (λ c. rw (c .match .keys13))
+    (λ c. rw (c .match .keys14))
     (λ c.
     let a = c .before .args in
-    sym (List·getD-eq-default (lengths (a .a) (a .b) (a .c)) false (past-arms 13 (a .kind) (c .match .rest)))))
+    sym (List·getD-eq-default (lengths (a .a) (a .b) (a .c)) false (past-arms 14 (a .kind) (c .match .rest)))))
