@@ -1,7 +1,6 @@
 // Step files: bytes to header, table and records, and back.
 ghost use mathlib.Core.Path.{_≡_};
 ghost use Prim.Native.Nat.{_+_, _<_, _≤_};
-ghost use lib.ListN.{length};
 ghost use Rattle.checks.specs.Checks.{first};
 ghost use Rattle.shift.specs.Answers.{refusal};
 ghost use Rattle.numbers.specs.Bytes.{u16sAt};
@@ -92,7 +91,6 @@ pub fn table(file: &[u8]) -> Table
 
 // The eighteen entries that stand behind the header.
 fn entries_at(file: &[u8]) -> [u16; 18]
-    requires { ⌜ 48 ≤ length (now file) ⌝ }
     ensures { λ r. ⌜ r ≡ u16sAt (now (file .entry)) 12 18 ⌝ }
 {
     let mut entries = [0u16; 18];

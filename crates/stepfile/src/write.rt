@@ -146,7 +146,7 @@ fn put_file(out: &mut [u8], wish: Wish, codes: &[u8], amounts: &[u32])
 
 // The header of a file with so many entries and records, at the start.
 fn put_header(out: &mut [u8], entries: u16, count: u16)
-    requires { ⌜ (12 ≤ length (now out)) × (entries ≤ 18) ⌝ }
+    requires { ⌜ entries ≤ 18 ⌝ }
     ensures { λ _. ⌜ now (out .exit) ≡ sets (now (out .entry)) 0 (bytesOf (headerOf entries count)) ⌝ }
 {
     put(out, 0, 12);
@@ -159,7 +159,6 @@ fn put_header(out: &mut [u8], entries: u16, count: u16)
 
 // The eighteen entries behind the header.
 fn put_table(out: &mut [u8], table: Table)
-    requires { ⌜ 48 ≤ length (now out) ⌝ }
     ensures { λ _. ⌜ now (out .exit) ≡ sets (now (out .entry)) 12 (bytesOf (entries table)) ⌝ }
 {
     let entries = table.entries();

@@ -43,6 +43,6 @@ table-spec =
     (λ c κs. omega arith)
     (λ _ _. tt)
     returns-2
-    (λ c κs. c .before .before .if1 .left)
+    (λ _ _. tt)
     (λ _ _. tt)
     returns-3)

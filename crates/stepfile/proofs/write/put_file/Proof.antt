@@ -13,12 +13,6 @@ use Rattle.stepfile.proofs.StoreLaws.{file-stored}
 use Rattle.stepfile.proofs.write.put_file.Statement.{statement}
 use Rattle.stepfile.proofs.write.put_file.Tie as tie
 
-put-table-requires : tie.Need-put-table-requires
-put-table-requires c κs =
-    let w = c .before .before .before .before .before .before .wish .given .1 in
-    let room = rw w at (c .before .before .before .before .before .before .before .before .before .before .before .pre .1 .0) in
-    omega (arith, c .before .before .before .put-header .kept .0)
-
 put-records-requires : tie.Need-put-records-requires
 put-records-requires c κs =
     let w = c .before .before .before .before .before .before .before .before .before .before .wish .given .1 in
@@ -56,7 +50,7 @@ put-file-spec =
     (λ c. search needs)
     (λ c. search needs)
     (λ c κs. search needs)
-    put-table-requires
+    (λ _ _. tt)
     put-records-requires
     (λ c. search needs)
     (λ c κs. search needs)
