@@ -3,14 +3,13 @@
 use mathlib.Core.Path.{_≡_, refl, sym, ap, subst, _∙_}
 use mathlib.Core.Bool.{cond}
 use mathlib.Core.List.{List, [], _++_}
-use Prim.Native.Nat.{ℕ, zero, suc, _+_, _*_, _-_, _/_, _≤_, _<_}
+use Prim.Native.Nat.{ℕ, zero, suc, _+_, _-_, _/_, _≤_, _<_}
 use native.Mathlib.Omega.{arith}
-use lib.Dec.{leb, eqb}
 use lib.ListN.{length, drop, length-drop}
 use lib.Seq.{sets}
 use borrow.Author.Tests.{eq-eqb, ne-eqb, le-leb, lt-leb}
 use Rattle.numbers.specs.Bytes.{bytesOf}
-use Rattle.numbers.proofs.StoreLaws.{bytesOf-append, sets-append, at-start}
+use Rattle.numbers.proofs.StoreLaws.{sets-append, at-start}
 use Rattle.shift.specs.States.{start}
 use Rattle.shift.specs.Runs.{Outcome, run}
 use Rattle.stepfile.specs.declared.Refusal.{Refusal}
@@ -26,7 +25,7 @@ use Rattle.shiftlist.specs.declared.Shift.{Shift}
 use Rattle.shiftlist.specs.declared.walk.Walk.{Walk}
 use Rattle.shiftlist.specs.declared.Listed.{Listed}
 use Rattle.shiftlist.specs.Lists.{entriesOf, headerOf, listOf, shiftsOf, sizeFor, listedLong, refusedBy, fitting, afterJudge, builtOf, bufferAfter}
-use Rattle.shiftlist.specs.Walks.{codedIn, idle, laidBy, requestsBy, sizeWith}
+use Rattle.shiftlist.specs.Walks.{codedIn, idle, laidBy, sizeWith}
 use Rattle.shiftlist.proofs.WalkLaws.{listed, shifts-same}
 use Rattle.shiftlist.proofs.Extended.{from-rest}
 use Rattle.shiftlist.proofs.CodeLaws.{requestsIn, laid-as-listed, requests-same, as-many}

@@ -1,11 +1,10 @@
 -- The walk by codes and amounts is the walk by what was read, on records that are accepted; and so is the count of requests.
 -- Assumes nothing.
 use mathlib.Core.Path.{_≡_, refl, sym, ap, subst, _∙_}
-use mathlib.Core.Bool.{Bool, true, false, cond, _&&_}
 use mathlib.Core.List.{List, [], _∷_}
 use Prim.Native.Nat.{ℕ, zero, suc, _+_, _*_, _%_, _≤_}
 use native.Mathlib.Omega.{arith}
-use lib.Dec.{leb, eqb}
+use lib.Dec.{eqb}
 use lib.ListN.{length}
 use Rattle.shift.specs.declared.Step.{Step}
 use Rattle.shift.specs.declared.Step.the-variants.{FromNeutral, GearToGear, ToNeutral, Deliver, DeviceGood, DeviceFailed, EngineWaits, Take, AskClutch, RaiseError, Finish, Tick, Reset}
@@ -17,7 +16,7 @@ use Rattle.trace.proofs.TraceLaws.{Sound}
 use Rattle.trace.proofs.CodeLaws.{codeOf, amountOf, its-own, leads-by-code}
 use Rattle.shiftlist.specs.declared.Shift.{Shift}
 use Rattle.shiftlist.specs.declared.walk.Walk.{Walk}
-use Rattle.shiftlist.specs.Shifts.{kindIn, asksIn, kindOf, asks, begun, entryFor}
+use Rattle.shiftlist.specs.Shifts.{kindIn, asksIn, kindOf, begun, entryFor}
 use Rattle.shiftlist.specs.Walks.{codedIn, kindBy, isRequest, traceBy, traceIn, inHand, further, walkedBy, closes, with, laidBy, oneIf, requestsBy}
 use Rattle.shiftlist.proofs.WalkLaws.{wholeOn, shiftsOn, walked, listed, same-trace}
 

@@ -2,9 +2,9 @@
 -- last is open.
 -- Assumes nothing.
 use mathlib.Core.Path.{_≡_, refl, sym, ap, subst, _∙_}
-use mathlib.Core.Bool.{Bool, true, false, cond}
-use mathlib.Core.List.{List, [], _∷_, _++_, append-nil, append-assoc}
-use Prim.Native.Nat.{ℕ, zero, suc, _+_, _≤_, _<_}
+use mathlib.Core.Bool.{Bool, true, false}
+use mathlib.Core.List.{List, [], _∷_, _++_, append-nil}
+use Prim.Native.Nat.{ℕ, suc, _+_}
 use native.Mathlib.Omega.{arith}
 use lib.Dec.{T}
 use lib.ListN.{length}
@@ -16,9 +16,9 @@ use Rattle.trace.proofs.TraceLaws.{Sound}
 use Rattle.shiftlist.specs.declared.Shift.{Shift}
 use Rattle.shiftlist.specs.declared.walk.Walk.{Walk}
 use Rattle.shiftlist.specs.Shifts.{kindOf, asks, endOf}
-use Rattle.shiftlist.specs.Walks.{traceIn, inHand, further, closes, with, idle}
+use Rattle.shiftlist.specs.Walks.{traceIn, inHand, closes, with, idle}
 use Rattle.shiftlist.proofs.PhaseSteps.{Moves, begins, goes, ends, rests, moves}
-use Rattle.shiftlist.proofs.WalkLaws.{wholeOn, shiftsOn, walked, listed, closed, atEnd, makes, pieces, toCome, same-trace}
+use Rattle.shiftlist.proofs.WalkLaws.{wholeOn, shiftsOn, walked, listed, closed, atEnd, makes, pieces, same-trace}
 
 pub sound-pieces : (t : Trace) (xs ys : List Reading) → Sound t (xs ++ ys) → Sound t xs × Sound (traced t xs) ys
 sound-pieces t [] ys h = (tt, h)

@@ -8,10 +8,10 @@ use lib.ListN.{length, drop, getD}
 use lib.Seq.{drop-cons, getD-drop}
 use Rattle.checks.proofs.Checks.{refused, holds→first}
 use Rattle.checks.proofs.Tests.{tests}
-use Rattle.numbers.specs.Bytes.{u16At, u32At, bytesOf}
+use Rattle.numbers.specs.Bytes.{u32At, bytesOf}
 use Rattle.numbers.proofs.ReadLaws.{no-byte, no-u16, no-u32}
 use Rattle.shiftlist.specs.declared.Shift.{Shift}
-use Rattle.shiftlist.specs.Lists.{numbersOf, entriesOf, headerOf, listOf, shiftAt, noShift, fetchable, found, fetchOf}
+use Rattle.shiftlist.specs.Lists.{numbersOf, entriesOf, listOf, shiftAt, noShift, fetchable, found, fetchOf}
 use Rattle.shiftlist.proofs.ListLaws.{list-long}
 
 -- the widths of an entry's fields

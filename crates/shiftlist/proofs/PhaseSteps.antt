@@ -1,14 +1,14 @@
 -- What a step that its phase allows does to a shift: it begins one, goes on with it, ends it, or is outside of any.
 -- Assumes nothing.
-use mathlib.Core.Path.{_≡_, refl, sym, ap, _∙_}
+use mathlib.Core.Path.{_≡_, refl}
 use mathlib.Core.Bool.{Bool, true, false, _&&_}
-use Prim.Native.Nat.{ℕ, zero, suc, _+_, _≤_, _<_}
+use Prim.Native.Nat.{ℕ, suc, _≤_, _<_}
 use native.Mathlib.Omega.{arith}
-use lib.Dec.{T, leb, eqb, leb→le, eqb→eq}
-use borrow.Author.Tests.{leb-true, leb-false, le-leb, lt-leb, ne-eqb, eq-eqb, eqb-false, eqb-true}
-use Rattle.checks.proofs.Tests.{tests, passed, left, right, case}
-use Rattle.checks.proofs.Ranges.{from, below}
-use Rattle.phases.specs.Phases.{done, error, nextOf, clutchOf, unfinished, engine}
+use lib.Dec.{T, leb, eqb}
+use borrow.Author.Tests.{leb-true, leb-false, le-leb, lt-leb, ne-eqb, eqb-false, eqb-true}
+use Rattle.checks.proofs.Tests.{passed, left, right, case}
+use Rattle.checks.proofs.Ranges.{from}
+use Rattle.phases.specs.Phases.{nextOf, clutchOf, unfinished, engine}
 use Rattle.phases.proofs.PhaseLaws.{unfinished-in, next-listed, clutch-listed}
 use Rattle.shift.specs.declared.Step.{Step}
 use Rattle.shift.specs.declared.Step.the-variants.{FromNeutral, GearToGear, ToNeutral, Deliver, DeviceGood, DeviceFailed, EngineWaits, Take, AskClutch, RaiseError, Finish, Tick, Reset}

@@ -1,7 +1,7 @@
 // Along the records: clock and phase, and the shift that was begun last.
 ghost use mathlib.Core.Path.{_≡_};
 ghost use mathlib.Core.Bool.{cond};
-ghost use Prim.Native.Nat.{_+_, _-_, _%_};
+ghost use Prim.Native.Nat.{_-_};
 ghost use Rattle.shiftlist.specs.Shifts.{endOf};
 ghost use Rattle.shiftlist.specs.Walks.{clockBy, inHand, isRequest, walkedBy};
 use crate::Shift;

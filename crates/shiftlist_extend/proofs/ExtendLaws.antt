@@ -1,16 +1,16 @@
 -- Laws on extending a list: that what the walk lays are the entries of the definition, and the answer by the check that it stops at.
 -- Assumes nothing.
 use mathlib.Core.Path.{_≡_, refl, sym, ap, subst, _∙_}
-use mathlib.Core.Bool.{Bool, true, false, cond, _&&_}
+use mathlib.Core.Bool.{Bool, true, false, cond}
 use mathlib.Core.List.{List, [], _∷_}
 use Prim.Native.Nat.{ℕ, _+_, _*_, _-_, _/_, _≤_, _<_}
 use native.Mathlib.Omega.{arith}
-use lib.Dec.{T, leb, eqb}
+use lib.Dec.{T, eqb}
 use lib.ListN.{length}
 use lib.Seq.{sets}
-use borrow.Author.Tests.{eq-eqb, ne-eqb, le-leb, lt-leb, leb-true}
+use borrow.Author.Tests.{eq-eqb, ne-eqb, le-leb, lt-leb}
 use Rattle.checks.specs.Checks.{first}
-use Rattle.checks.proofs.Tests.{case, passes}
+use Rattle.checks.proofs.Tests.{passes}
 use Rattle.limits.specs.declared.Table.{Table}
 use Rattle.limits.specs.Rules.{brokenRule}
 use Rattle.numbers.specs.Bytes.{u32At, bytesOf}
@@ -26,8 +26,8 @@ use Rattle.trace.proofs.TraceLaws.{Sound, accepted-sound}
 use Rattle.shiftlist.specs.declared.Shift.{Shift}
 use Rattle.shiftlist.specs.declared.walk.Walk.{Walk}
 use Rattle.shiftlist.specs.declared.Listed.{Listed}
-use Rattle.shiftlist.specs.Shifts.{endOf, whole, shiftsFrom}
-use Rattle.shiftlist.specs.Lists.{entriesOf, headerOf, listedLong, refusedBy, fitting, shiftAt}
+use Rattle.shiftlist.specs.Shifts.{endOf, whole}
+use Rattle.shiftlist.specs.Lists.{entriesOf, headerOf, listedLong, refusedBy, fitting}
 use Rattle.shiftlist.specs.Walks.{codedIn, holding, traceIn, inHand, with, laidBy, openAt, requestsBy, sizeWith}
 use Rattle.shiftlist.proofs.WalkLaws.{wholeOn, shiftsOn, whole-same, shifts-same, makes}
 use Rattle.shiftlist.proofs.CodeLaws.{laid-as-listed, requests-same, as-many}

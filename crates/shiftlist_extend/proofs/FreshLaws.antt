@@ -2,11 +2,11 @@
 -- those that are over are the shifts of the longer file.
 -- Assumes nothing.
 use mathlib.Core.Path.{_≡_, refl, sym, ap, subst, _∙_}
-use mathlib.Core.Bool.{Bool, true, false, cond, _||_}
+use mathlib.Core.Bool.{Bool, true, false, _||_}
 use mathlib.Core.List.{List, [], _∷_, _++_}
 use Prim.Native.Nat.{ℕ, zero, suc, _+_, _*_, _-_, _/_, _%_, _≤_}
 use native.Mathlib.Omega.{arith}
-use lib.Dec.{T, leb, eqb}
+use lib.Dec.{eqb}
 use lib.ListN.{length, getD, length-append}
 use borrow.Author.Tests.{le-leb, ne-eqb}
 use Rattle.checks.specs.Checks.{first}
@@ -17,24 +17,23 @@ use Rattle.phases.specs.Phases.{unfinished}
 use Rattle.shift.specs.declared.State.{State}
 use Rattle.shift.specs.States.{start}
 use Rattle.stepfile.specs.Records.{recordsIn}
-use Rattle.stepfile.specs.Files.{tableIn, readingsOf}
+use Rattle.stepfile.specs.Files.{tableIn}
 use Rattle.trace.specs.Traces.{Trace, traceOf}
 use Rattle.trace.proofs.TraceLaws.{Sound}
 use Rattle.shiftlist.specs.declared.Shift.{Shift}
 use Rattle.shiftlist.specs.Shifts.{whole, shiftsFrom}
 use Rattle.shiftlist.specs.Lists.{listOf, shiftsOf, sizeFor, shiftAt, noShift}
 use Rattle.shiftlist.specs.Walks.{traceIn, inHand, with}
-use Rattle.shiftlist.proofs.WalkLaws.{wholeOn, shiftsOn, whole-same, shifts-same, listed, makes}
+use Rattle.shiftlist.proofs.WalkLaws.{wholeOn, shiftsOn, whole-same, shifts-same, makes}
 use Rattle.shiftlist.proofs.Extended.{sound-pieces, end-trace, grows}
 use Rattle.shiftlist.proofs.BuildLaws.{begin}
 use Rattle.shiftlist.proofs.ListLaws.{list-long}
 use Rattle.shiftlist.proofs.WidthLaws.{shifts-of-a-file, entries-of-a-file-fit}
 use Rattle.shiftlist_extend.specs.Extending.{isOpen, isOver, fits, laidOn, grounds, lastEntry, laid, from, size}
 use Rattle.shiftlist_extend.proofs.GroundLaws.{last-ground}
-use Rattle.shiftlist_extend.proofs.RequestTimes.{Keeps}
 use Rattle.shiftlist_extend.proofs.RelaidLaws.{last-read}
 use Rattle.shiftlist_extend.proofs.AppendedLaws.{Appended, count-is, readings-are, few-records, admitted, further, all-sound}
-use Rattle.shiftlist_extend.proofs.EndLaws.{es, rs, s, n, c, z, keeps, same-phase, es-are, many, one-more, last-is, is-open, is-over}
+use Rattle.shiftlist_extend.proofs.EndLaws.{es, rs, s, n, c, z, keeps, es-are, many, one-more, last-is, is-open, is-over}
 
 module _ (f g bytes tail : List ℕ) (a : Appended f g bytes) where
   abbrev old : List Shift

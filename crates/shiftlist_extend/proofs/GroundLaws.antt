@@ -1,14 +1,14 @@
 -- Laws on the grounds that refuse a list, a file and a state: what it tells that none does, and the last of them.
 -- Assumes nothing.
-use mathlib.Core.Path.{_≡_, refl, sym}
-use mathlib.Core.Bool.{Bool, true, false, cond, _&&_, _||_}
+use mathlib.Core.Path.{_≡_}
+use mathlib.Core.Bool.{Bool, true, cond, _&&_}
 use Prim.Native.Nat.{ℕ, _+_, _*_, _-_, _≤_}
 use native.Mathlib.Omega.{arith}
 use lib.Dec.{T, leb, eqb, leb→le, eqb→eq}
 use borrow.Author.Tests.{le-leb, eq-eqb}
 use Rattle.checks.specs.Checks.{first}
 use Rattle.checks.proofs.Checks.{first→holds}
-use Rattle.checks.proofs.Tests.{tests, case, passed, left, right}
+use Rattle.checks.proofs.Tests.{tests, case, left, right}
 use Rattle.phases.specs.Phases.{unfinished}
 use Rattle.shift.specs.declared.State.{State}
 use Rattle.shiftlist.specs.declared.Shift.{Shift}

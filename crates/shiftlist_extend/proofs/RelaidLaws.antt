@@ -1,15 +1,15 @@
 -- Laws on the bytes of a list that is extended: its last entry, and the new entries behind those that stay, under the new count.
 -- Assumes nothing.
-use mathlib.Core.Path.{_≡_, refl, sym, ap, _∙_}
-use mathlib.Core.List.{List, [], _∷_, _++_, append-assoc, append-nil}
-use Prim.Native.Nat.{ℕ, zero, suc, _+_, _*_, _≤_, _<_}
+use mathlib.Core.Path.{_≡_, sym, ap, _∙_}
+use mathlib.Core.List.{List, [], _∷_, _++_, append-assoc}
+use Prim.Native.Nat.{ℕ, suc, _+_, _*_, _≤_}
 use native.Mathlib.Omega.{arith}
 use lib.ListN.{length, getD, take, drop, length-append}
 use lib.Seq.{sets, sets-eq, take-append-seam, drop-append-add, drop-at, take-suc, take-all, length-take-le}
 use Rattle.numbers.specs.Bytes.{bytesOf}
 use Rattle.numbers.proofs.StoreLaws.{bytesOf-append}
 use Rattle.shiftlist.specs.declared.Shift.{Shift}
-use Rattle.shiftlist.specs.Lists.{numbersOf, entriesOf, headerOf, listOf, shiftAt, noShift}
+use Rattle.shiftlist.specs.Lists.{entriesOf, headerOf, listOf, shiftAt, noShift}
 use Rattle.shiftlist.proofs.ListLaws.{entries-long, entries-append}
 use Rattle.shiftlist.proofs.FetchLaws.{Fits, shift-dropped, shift-read}
 

@@ -3,7 +3,6 @@ ghost use mathlib.Core.Path.{_≡_};
 ghost use Prim.Native.Nat.{ℕ, _+_, _*_, _≤_, _<_};
 ghost use lib.ListN.{length, getD};
 ghost use lib.Seq.{sets};
-ghost use mathlib.Core.List.{[], _∷_};
 ghost use Rattle.limits.specs.Limits.{entries};
 ghost use Rattle.numbers.specs.Bytes.{bytesOf};
 ghost use Rattle.stepfile.specs.Writing.{wished, entriesOf, headerOf, recordsOf, fileOf, sizeOf, firstWrong, refusedWith, writtenOf, bufferAfter};

@@ -1,8 +1,6 @@
 -- `build` meets its contract: the judge's refusal and 15, which leave the buffer, or the list in it.
 -- Assumes nothing.
-use mathlib.Core.Path.{_≡_, sym, ap, subst, _∙_}
-use mathlib.Core.List.{List}
-use Prim.Native.Nat.{ℕ}
+use mathlib.Core.Path.{sym, ap, _∙_}
 use native.Mathlib.Omega.{arith}
 use borrow.Author.Needs.{needs}
 use Rattle.stepfile.specs.Files.{fromOffset}

@@ -1,14 +1,13 @@
 -- `extend` meets its contract: a ground, the judge's refusal and 15, which leave the list, or the list extended.
 -- Assumes nothing.
-use mathlib.Core.Path.{_≡_, sym, ap, _∙_}
+use mathlib.Core.Path.{sym, ap, _∙_}
 use mathlib.Core.Bool.{cond}
-use Prim.Native.Nat.{_+_, _-_, _/_, _≤_}
+use Prim.Native.Nat.{_-_, _/_, _≤_}
 use native.Mathlib.Omega.{arith}
 use lib.Dec.{eqb}
 use lib.ListN.{length}
 use borrow.Author.Needs.{needs}
 use Rattle.checks.specs.Checks.{first}
-use Rattle.limits.specs.Rules.{brokenRule}
 use Rattle.numbers.specs.Bytes.{u32At}
 use Rattle.verdict.specs.declared.Verdict.{Verdict}
 use Rattle.shiftlist.specs.Lists.{listedLong, refusedBy, shiftAt}

@@ -1,6 +1,6 @@
 -- `put_if` meets its contract: one entry, or none.
 -- Assumes nothing.
-use mathlib.Core.Path.{refl, sym, ap, _∙_}
+use mathlib.Core.Path.{sym, ap, _∙_}
 use native.Mathlib.Nat.{add-zero}
 use lib.Seq.{sets}
 use borrow.Author.Needs.{needs}
