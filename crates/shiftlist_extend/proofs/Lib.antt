@@ -6,4 +6,5 @@ pub mod AppendedLaws
 pub mod EndLaws
 pub mod FreshLaws
 pub mod Fresh
+pub mod Earlier
 pub mod Determined
