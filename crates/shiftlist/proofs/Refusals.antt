@@ -91,7 +91,7 @@ module _ (f out : List ℕ) where
       → BuildAnswers f out (builtOf f (length out)) (bufferAfter f out)
   carried r b e a = subst (λ q. BuildAnswers f out q (bufferAfter f out)) (e .0) (subst (BuildAnswers f out r) (e .1) a)
 
-  build-answers : BuildAnswers f out (builtOf f (length out)) (bufferAfter f out)
+  pub build-answers : BuildAnswers f out (builtOf f (length out)) (bufferAfter f out)
   build-answers =
       case (eqb (v .number) 0)
       (λ t.
@@ -111,18 +111,18 @@ pub build :
 build κs a r at p = rw (p .0, p .1) (build-answers (now (a .0)) (now (a .1 .0)))
 
 -- ---- fetching
+pub same-32 : (l : List ℕ) (p : ℕ) → u32At l p ≡ bits32 l p
+same-32 l p =
+    let e : p + 2 + 1 ≡ p + 3 = omega arith in
+    let b = ap (λ k. getD l k 0) e in
+    omega arith
+
 module _ (l : List ℕ) (i : ℕ) where
   abbrev number : ℕ
   number = first (fetchable (length l) (u32At l 4) (u32At l 0) i)
 
   in-order : FirstOf (fetchRefusals l i) number
   in-order = first-of (fetchable (length l) (u32At l 4) (u32At l 0) i) (fetchRefusals l i) (omega (arith, tests))
-
-  same-32 : (p : ℕ) → u32At l p ≡ bits32 l p
-  same-32 p =
-      let e : p + 2 + 1 ≡ p + 3 = omega arith in
-      let b = ap (λ k. getD l k 0) e in
-      omega arith
 
   said : (p : ℕ) → BytesSay l p (shiftAt l p)
   said p = record {
@@ -131,8 +131,8 @@ module _ (l : List ℕ) (i : ℕ) where
     kind = refl;
     route = refl;
     end = refl;
-    time = same-32 (p + 8);
-    age = same-32 (p + 12);
+    time = same-32 l (p + 8);
+    age = same-32 l (p + 12);
   }
 
   abbrev Answers : Fetched → Type 0
@@ -152,7 +152,7 @@ module _ (l : List ℕ) (i : ℕ) where
     entry = λ z. absurd (omega arith);
   }
 
-  fetch-answers : Answers (fetchOf l i)
+  pub fetch-answers : FetchAnswers l i (fetchOf l i .number) (fetchOf l i .shift)
   fetch-answers = answers-by number in-order
 
 pub fetch :

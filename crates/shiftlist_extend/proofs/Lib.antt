@@ -7,4 +7,6 @@ pub mod EndLaws
 pub mod FreshLaws
 pub mod Fresh
 pub mod Earlier
+pub mod RefusalLaws
+pub mod Refusals
 pub mod Determined
