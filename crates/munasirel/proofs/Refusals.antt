@@ -9,6 +9,10 @@ use Rattle.limits.specs.Refusals.{broken}
 use Rattle.limits.proofs.Refusals.{in-order, at-most-15}
 use Rattle.line.specs.Refusals.{LineAnswers}
 use Rattle.line.proofs.Refusals.{line-answers}
+use Rattle.shiftlist.specs.Refusals.{BuildAnswers, FetchAnswers}
+use Rattle.shiftlist.proofs.Refusals.{build-answers, fetch-answers}
+use Rattle.shiftlist_extend.specs.Refusals.{ExtendAnswers}
+use Rattle.shiftlist_extend.proofs.Refusals.{extend-answers}
 use Rattle.stepfile.specs.Refusals.{WriteAnswers}
 use Rattle.stepfile.proofs.WriteRefusals.{write-answers}
 use Rattle.transfer.specs.Refusals.{JoinAnswers}
@@ -25,6 +29,9 @@ use Rattle.munasirel.proofs.munasirel_admit.Reads as admit-reads
 use Rattle.munasirel.proofs.munasirel_line.Reads as line-reads
 use Rattle.munasirel.proofs.munasirel_join.Reads as join-reads
 use Rattle.munasirel.proofs.munasirel_write.Reads as write-reads
+use Rattle.munasirel.proofs.munasirel_list.Reads as list-reads
+use Rattle.munasirel.proofs.munasirel_fetch.Reads as fetch-reads
+use Rattle.munasirel.proofs.munasirel_extend.Reads as extend-reads
 
 -- the number of a verdict
 pub munasirel-judge :
@@ -67,3 +74,22 @@ munasirel-write κs a r at p =
     let given = a .1 .1 in
     rw (p .0, p .1, p .2, p .3, p .4)
     (write-answers (wishOf (a .1 .0) (a .0)) (now (given .0)) (now (given .1 .0)) (now (given .1 .1 .0)))
+
+-- the answer and the buffer
+pub munasirel-list :
+    (κs : _) (a : _) (r : _) (at : _) → list-reads.Post κs a r at → BuildAnswers (now (a .0)) (now (a .1 .0)) r (now (at .1 .0))
+munasirel-list κs a r at p = rw (p .0, p .1) (build-answers (now (a .0)) (now (a .1 .0)))
+
+-- the number and the entry
+pub munasirel-fetch :
+    (κs : _) (a : _) (r : _) (at : _) → fetch-reads.Post κs a r at → FetchAnswers (now (a .0)) (a .1 .0) (r .number) (r .shift)
+munasirel-fetch κs a r at p = rw p (fetch-answers (now (a .0)) (a .1 .0))
+
+-- the answer and the list
+pub munasirel-extend :
+    (κs : _) (a : _) (r : _) (at : _) → extend-reads.Post κs a r at
+    → let given = a .1 .1 in
+    ExtendAnswers (now (a .0)) (a .1 .0) (given .0) (given .1 .0) (given .1 .1 .0) (now (given .1 .1 .1 .0)) r (now (at .0))
+munasirel-extend κs a r at p =
+    let given = a .1 .1 in
+    rw (p .0, p .1) (extend-answers (now (a .0)) (a .1 .0) (given .0) (given .1 .0) (given .1 .1 .0) (now (given .1 .1 .1 .0)))
