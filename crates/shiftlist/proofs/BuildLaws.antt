@@ -28,7 +28,7 @@ use Rattle.shiftlist.specs.Lists.{entriesOf, headerOf, listOf, shiftsOf,
 use Rattle.shiftlist.specs.Walks.{codedIn, idle, laidBy, sizeWith}
 use Rattle.shiftlist.proofs.WalkLaws.{listed, shifts-same}
 use Rattle.shiftlist.proofs.Extended.{from-rest}
-use Rattle.shiftlist.proofs.CodeLaws.{requestsIn, laid-as-listed, requests-same, as-many}
+use Rattle.shiftlist.proofs.CodeLaws.{laid-as-listed}
 use Rattle.shiftlist.proofs.ListLaws.{list-long}
 use Rattle.shiftlist.proofs.LaidLaws.{laid}
 
@@ -73,11 +73,7 @@ module _ (f : List ℕ) (z : verdictOf f .number ≡ 0) where
       ∙ sym (shifts-same 0 start (readingsOf f))
 
   pub size-laid : (out : List ℕ) → sizeWith out 8 begin 0 (fromOffset f) ≡ sizeFor (shiftsOf f)
-  size-laid out =
-      let a = requests-same begin 0 (fromOffset f) records-sound ∙ ap requestsIn same-records in
-      let b = as-many 0 (traceOf start) (readingsOf f) in
-      let c = ap length (shifts-same 0 start (readingsOf f)) in
-      omega (arith, a, b, c)
+  size-laid out = ap sizeFor laid-is-the-list
 
 -- ---- a whole list in a buffer
 pub list-stored :

@@ -1,16 +1,16 @@
 -- The shifts of records in one walk over their bytes, with one shift in hand: an entry is made where its shift ends, and at the end. For
 -- functions inside; `laid-is-the-list` of proofs/WalkLaws.antt ties it to Shifts.antt, where the records are accepted.
 -- Assumes nothing.
-use mathlib.Core.Bool.{Bool, true, false, cond, _&&_, _||_}
+use mathlib.Core.Bool.{Bool, true, false, cond, _&&_}
 use mathlib.Core.List.{List, [], _∷_}
 use Prim.Native.Nat.{ℕ, zero, suc, _+_, _*_, _-_, _/_, _%_}
 use lib.Dec.{leb, eqb}
 use lib.ListN.{length}
 use lib.Seq.{sets}
 use Rattle.numbers.specs.Bytes.{bytesOf}
-use Rattle.phases.specs.Phases.{unfinished}
+use Rattle.phases.specs.Phases.{nextOf, unfinished}
 use Rattle.stepfile.specs.Records.{everyFour}
-use Rattle.trace.specs.Traces.{Trace, phaseBy}
+use Rattle.trace.specs.Traces.{Trace, entering, phaseBy}
 use Rattle.shiftlist.specs.declared.Shift.{Shift}
 use Rattle.shiftlist.specs.declared.walk.Walk.{Walk}
 use Rattle.shiftlist.specs.Shifts.{endOf}
@@ -34,16 +34,13 @@ kindBy code = cond (leb code 3) code 0
 abbrev pub isRequest : ℕ → Bool
 isRequest code = leb 1 code && leb code 3
 
--- the codes that change no phase and ask for nothing: a tick's, and those of the four steps that change the stage alone
-abbrev pub quiet : ℕ → Bool
-quiet code = eqb code 12 || (leb 4 code && leb code 7)
+-- codes 4 to 7, of the steps that change the stage alone
+abbrev pub isStill : ℕ → Bool
+isStill code = leb 4 code && leb code 7
 
--- the trace by code and amount; the clock is that of 32 bits
+-- the clock of 32 bits after a tick
 abbrev pub clockBy : ℕ → ℕ → ℕ
 clockBy clock amount = (clock + amount) % 4294967296
-
-abbrev pub traceBy : Trace → ℕ → ℕ → Trace
-traceBy t code amount = record { clock = clockBy (t .clock) amount; phase = phaseBy (t .phase) code }
 
 -- ---- the walk
 -- where it stands
@@ -84,8 +81,19 @@ further zero w i asked t =
     holding (t .clock) (t .phase) (w .first) i (w .kind) (cond asked 1 (w .route)) (w .«request_time»)
 further (suc k) w i asked t = holding (t .clock) (t .phase) i i (suc k) 0 (w .clock)
 
+-- by a tick to this clock, by any other code, and by code and amount
+abbrev pub ticked : Walk → ℕ → ℕ → Walk
+ticked w i clock = holding clock (w .phase) (w .first) i (w .kind) (w .route) (w .«request_time»)
+
+abbrev pub steppedBy : Walk → ℕ → ℕ → Walk
+steppedBy w i code = further (kindBy code) w i (eqb code 9) (entering (phaseBy (w .phase) code) (traceIn w))
+
 abbrev pub walkedBy : Walk → ℕ → ℕ → ℕ → Walk
-walkedBy w i code amount = further (kindBy code) w i (eqb code 9) (traceBy (traceIn w) code amount)
+walkedBy w i code amount = cond (eqb code 12) (ticked w i (clockBy (w .clock) amount)) (steppedBy w i code)
+
+-- a take that goes on with the shift
+abbrev pub takesOn : ℕ → ℕ → Bool
+takesOn phase code = eqb code 8 && leb (nextOf phase) 21
 
 -- a record that leads from phase p to phase q ends a shift
 abbrev pub closes : ℕ → ℕ → Bool
@@ -102,21 +110,16 @@ laidBy w i (c ∷ cs) =
     let w′ = walkedBy w i (c .code) (c .amount) in
     with (closes (w .phase) (w′ .phase)) (inHand w′) (laidBy w′ (suc i) cs)
 
+-- the last record before the record with this index among those that are walked, and before the first this one
+abbrev pub lastBefore : ℕ → ℕ → ℕ → ℕ
+lastBefore last from zero = last
+lastBefore last from (suc i) = from + i
+
 -- ---- laying them into a list, from a place on
-abbrev pub openAt : ℕ → ℕ
-openAt phase = cond (unfinished phase) 1 0
-
-abbrev pub oneIf : Bool → ℕ
-oneIf b = cond b 1 0
-
-abbrev pub requestsBy : List Coded → ℕ
-requestsBy [] = 0
-requestsBy (c ∷ cs) = oneIf (isRequest (c .code)) + requestsBy cs
-
 module _ (l : List ℕ) (from : ℕ) (w : Walk) (i : ℕ) (bytes : List ℕ) where
-  -- the size of the list then: an entry for an open shift, and one for each request
+  -- the size of the list then
   abbrev pub sizeWith : ℕ
-  sizeWith = from + 16 * (openAt (w .phase) + requestsBy (codedIn bytes))
+  sizeWith = from + 16 * length (laidBy w i (codedIn bytes))
 
   -- no more records than a file has, behind the header, not behind the longest list, and with room
   abbrev pub layable : Bool

@@ -1,20 +1,21 @@
 // Laying the entries of shifts into a list, along the records that make them.
 ghost use mathlib.Core.Path.{_≡_};
-ghost use mathlib.Core.Bool.{_&&_};
+ghost use mathlib.Core.Bool.{cond, _&&_};
 ghost use mathlib.Core.List.{[]};
 ghost use Prim.Native.Nat.{_+_, _*_, _/_, _≤_};
+ghost use lib.Dec.{leb};
 ghost use lib.ListN.{length};
 ghost use lib.Seq.{sets};
 ghost use Rattle.numbers.specs.Bytes.{bytesOf};
 ghost use Rattle.shiftlist.specs.Lists.{numbersOf, entriesOf};
-ghost use Rattle.shiftlist.specs.Walks.{codedIn, quiet, inHand, with, laidBy, oneIf, requestsBy, laidSize, laidIn};
+ghost use Rattle.shiftlist.specs.Walks.{codedIn, isStill, inHand, takesOn, lastBefore, with, laidBy, laidSize, laidIn};
 use crate::Shift;
 use crate::walk::Walk;
 use crate::walk::clock_after;
-use crate::walk::is_request;
 use numbers::put;
 use numbers::put32;
 use phases::is_unfinished;
+use phases::next_of;
 
 // Lays the entries that records make behind a walk into the list, from a place on, and counts the list anew. The first record has this
 // index. Answers the list's size then; or 0, and no byte is changed: too many records, a place that no list has, or no room.
@@ -22,90 +23,93 @@ pub fn lay(list: &mut [u8], from: usize, walk: Walk, index: u32, records: &[u8])
     ensures { λ r. ⌜ r ≡ laidSize (now (list .entry)) from walk index (now (records .entry)) ⌝ }
     ensures { λ _. ⌜ now (list .exit) ≡ laidIn (now (list .entry)) from walk index (now (records .entry)) ⌝ }
 {
-    let count = records.len() / 4;
-    if 16372 < index as usize + count {
+    if 16372 < index as usize + records.len() / 4 {
         return 0;
     }
     if (from < 8) | (261960 < from) {
         return 0;
     }
-    let shifts = one_if(is_unfinished(walk.phase)) + requests(records);
-    let size = from + 16 * (shifts as usize);
-    if list.len() < size {
+    let number = index as u16;
+    if !has_room(list.len(), from, walk, number, records) {
         return 0;
     }
+    let size = lay_entries(list, from, walk, number, records);
     put32(list, 0, ((size - 8) / 16) as u32);
     put32(list, 4, 8);
-    lay_entries(list, from, walk, index as u16, records);
     size
 }
 
-// How many requests there are.
-fn requests(records: &[u8]) -> u16
-    requires { ⌜ length (now records) / 4 ≤ 16372 ⌝ }
-    ensures { λ r. ⌜ (r ≡ requestsBy (codedIn (now (records .entry)))) × (r ≤ 16372) ⌝ }
+// The list with the entries fits so many bytes. With room for an entry a record nothing has to be counted; else the entries are laid
+// where there is no room for any, which tells how many there are.
+fn has_room(len: usize, from: usize, walk: Walk, index: u16, records: &[u8]) -> bool
+    requires { ⌜ index + length (now records) / 4 ≤ 16372 ⌝ }
+    requires { ⌜ from ≤ 261960 ⌝ }
+    ensures { λ r. ⌜ r ≡ leb (from + 16 * length (laidBy walk index (codedIn (now (records .entry))))) len ⌝ }
 {
-    let count = records.len() / 4;
-    // In 16 bits, of which more are added at a time.
-    let mut found: u16 = 0;
-    let mut i: usize = 0;
-    while i < count {
-        found = found + one_if(is_request(records[4 * i]));
-        i += 1;
+    let open = one_if(is_unfinished(walk.phase));
+    if from + 16 * (open + records.len() / 4) <= len {
+        return true;
     }
-    found
+    let mut none = [0u8; 1];
+    lay_entries(&mut none, from, walk, index, records) <= len
 }
 
-fn one_if(b: bool) -> u16
-    ensures { λ r. ⌜ r ≡ oneIf b ⌝ }
+fn one_if(b: bool) -> usize
+    ensures { λ r. ⌜ r ≡ cond b 1 0 ⌝ }
 {
     if b { 1 } else { 0 }
 }
 
-// The entries alone; bytes that would stand behind the list's end are left out.
-fn lay_entries(list: &mut [u8], from: usize, walk: Walk, index: u16, records: &[u8])
+// The entries alone, and the place behind them; bytes that would stand behind the list's end are left out.
+fn lay_entries(list: &mut [u8], from: usize, walk: Walk, index: u16, records: &[u8]) -> usize
     requires { ⌜ index + length (now records) / 4 ≤ 16372 ⌝ }
     requires { ⌜ from ≤ 261960 ⌝ }
+    ensures { λ r. ⌜ r ≡ from + 16 * length (laidBy walk index (codedIn (now (records .entry)))) ⌝ }
     ensures { λ _. ⌜ now (list .exit) ≡ sets (now (list .entry)) from (bytesOf (entriesOf (laidBy walk index (codedIn (now (records .entry)))))) ⌝ }
 {
     // Field by field, which spares the loop the bytes between them.
     let mut clock = walk.clock;
     let mut phase = walk.phase;
     let mut first = walk.first;
-    let mut last = walk.last;
     let mut kind = walk.kind;
     let mut route = walk.route;
     let mut time = walk.request_time;
+    let last = walk.last;
     let count = records.len() / 4;
     let mut p = from;
     let mut i: usize = 0;
     while i < count {
-        let amount = amount_of(records[4 * i + 2], records[4 * i + 3]);
         let code = records[4 * i];
-        let number = index + (i as u16);
-        // Most records move only the clock, or not even it.
-        if is_quiet(code) {
+        if code == 12 {
+            let amount = amount_of(records[4 * i + 2], records[4 * i + 3]);
             clock = clock_after(clock, amount);
-            last = number;
             i += 1;
             continue;
         }
+        if is_still(code) {
+            i += 1;
+            continue;
+        }
+        if takes_on(phase, code) {
+            phase = next_of(phase);
+            i += 1;
+            continue;
+        }
+        let number = index + (i as u16);
         let w = Walk {
             clock,
             phase,
             first,
-            last,
+            last: number,
             kind,
             route,
             request_time: time,
         };
-        let next = w.after(number, code, amount);
+        let next = w.after(number, code);
         let to = next.phase;
         p = put_if(list, p, phase <= 21, 22 <= to, next);
-        clock = next.clock;
         phase = to;
         first = next.first;
-        last = next.last;
         kind = next.kind;
         route = next.route;
         time = next.request_time;
@@ -115,12 +119,16 @@ fn lay_entries(list: &mut [u8], from: usize, walk: Walk, index: u16, records: &[
         clock,
         phase,
         first,
-        last,
+        last: last_before(last, index, count),
         kind,
         route,
         request_time: time,
     };
-    put_if(list, p, 1 <= phase, phase <= 21, w);
+    if is_unfinished(phase) {
+        put_entry(list, p, w.entry());
+        return p + 16;
+    }
+    p
 }
 
 fn amount_of(low: u8, high: u8) -> u32
@@ -129,11 +137,32 @@ fn amount_of(low: u8, high: u8) -> u32
     low as u32 + 256 * (high as u32)
 }
 
-// A tick, or one of the four steps that change the stage alone.
-fn is_quiet(code: u8) -> bool
-    ensures { λ r. ⌜ r ≡ quiet code ⌝ }
+// One of the four steps that change the stage alone.
+fn is_still(code: u8) -> bool
+    ensures { λ r. ⌜ r ≡ isStill code ⌝ }
 {
-    (code == 12) | ((4 <= code) & (code <= 7))
+    (4 <= code) & (code <= 7)
+}
+
+// A take that goes on with the shift.
+fn takes_on(phase: u8, code: u8) -> bool
+    ensures { λ r. ⌜ r ≡ takesOn phase code ⌝ }
+{
+    if code == 8 {
+        return next_of(phase) <= 21;
+    }
+    false
+}
+
+// The last record before so many of those that begin at an index; of none, the one that is given.
+fn last_before(last: u16, index: u16, count: usize) -> u16
+    requires { ⌜ index + count ≤ 16372 ⌝ }
+    ensures { λ r. ⌜ r ≡ lastBefore last index count ⌝ }
+{
+    if count == 0 {
+        return last;
+    }
+    index + ((count - 1) as u16)
 }
 
 // The entry of the shift in hand where both hold, and the place behind it. The second is tested first: it mostly fails.
@@ -152,8 +181,20 @@ fn put_if(list: &mut [u8], at: usize, a: bool, b: bool, w: Walk) -> usize
     at
 }
 
-// An entry at a place; all other bytes stay.
+// An entry at a place; all other bytes stay. In a part of its own no number has to be tested for room.
 fn put_entry(list: &mut [u8], at: usize, e: Shift)
+    requires { ⌜ at ≤ 523920 ⌝ }
+    ensures { λ _. ⌜ now (list .exit) ≡ sets (now (list .entry)) at (bytesOf (numbersOf e)) ⌝ }
+{
+    let end = at + 16;
+    if list.len() < end {
+        put_numbers(list, at, e);
+        return;
+    }
+    put_numbers(&mut list[at..end], 0, e);
+}
+
+fn put_numbers(list: &mut [u8], at: usize, e: Shift)
     requires { ⌜ at ≤ 523920 ⌝ }
     ensures { λ _. ⌜ now (list .exit) ≡ sets (now (list .entry)) at (bytesOf (numbersOf e)) ⌝ }
 {

@@ -3,7 +3,7 @@ ghost use mathlib.Core.Path.{_≡_};
 ghost use mathlib.Core.Bool.{cond};
 ghost use Prim.Native.Nat.{_-_};
 ghost use Rattle.shiftlist.specs.Shifts.{endOf};
-ghost use Rattle.shiftlist.specs.Walks.{clockBy, inHand, isRequest, walkedBy};
+ghost use Rattle.shiftlist.specs.Walks.{clockBy, inHand, isRequest, steppedBy};
 use crate::Shift;
 use trace::phase_after;
 
@@ -18,12 +18,11 @@ pub struct Walk {
 }
 
 impl Walk {
-    // One record further, the record with this number, by its code and amount.
-    pub(crate) fn after(self, number: u16, code: u8, amount: u32) -> Walk
-        ensures { λ r. ⌜ r ≡ walkedBy self number code amount ⌝ }
+    // One record further, the record with this number, by its code, which is no tick's.
+    pub(crate) fn after(self, number: u16, code: u8) -> Walk
+        ensures { λ r. ⌜ r ≡ steppedBy self number code ⌝ }
     {
-        let now = self.clock;
-        let clock = clock_after(now, amount);
+        let clock = self.clock;
         let phase = phase_after(self.phase, code);
         if is_request(code) {
             return Walk {
@@ -33,7 +32,7 @@ impl Walk {
                 last: number,
                 kind: code,
                 route: 0,
-                request_time: now,
+                request_time: clock,
             };
         }
         let route = pick(code == 9, 1, self.route);
@@ -74,7 +73,7 @@ pub(crate) fn clock_after(clock: u32, amount: u32) -> u32
     std::num::wrapping_add_u32(clock, amount)
 }
 
-pub(crate) fn is_request(code: u8) -> bool
+fn is_request(code: u8) -> bool
     ensures { λ r. ⌜ r ≡ isRequest code ⌝ }
 {
     (1 <= code) & (code <= 3)

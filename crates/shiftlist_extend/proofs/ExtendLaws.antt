@@ -28,10 +28,9 @@ use Rattle.shiftlist.specs.declared.walk.Walk.{Walk}
 use Rattle.shiftlist.specs.declared.Listed.{Listed}
 use Rattle.shiftlist.specs.Shifts.{endOf, whole}
 use Rattle.shiftlist.specs.Lists.{entriesOf, headerOf, listedLong, refusedBy, fitting}
-use Rattle.shiftlist.specs.Walks.{codedIn, holding, traceIn, inHand, with, laidBy, openAt, requestsBy, sizeWith}
+use Rattle.shiftlist.specs.Walks.{codedIn, holding, traceIn, inHand, with, laidBy, sizeWith}
 use Rattle.shiftlist.proofs.WalkLaws.{wholeOn, shiftsOn, whole-same, shifts-same, makes}
-use Rattle.shiftlist.proofs.CodeLaws.{laid-as-listed, requests-same, as-many}
-use Rattle.shiftlist.proofs.StoreLaws.{with-length}
+use Rattle.shiftlist.proofs.CodeLaws.{laid-as-listed}
 use Rattle.shiftlist.proofs.LaidLaws as kernel
 use Rattle.shiftlist_extend.specs.Extending.{laidOn, grounds, lastEntry, laid, from, size, afterRun, afterGrounds, extendedOf, listAfter}
 use Rattle.shiftlist_extend.specs.Resuming.{placeOf, resumedOn}
@@ -58,10 +57,6 @@ held-entry s e u z a =
         → resumedOn s e ≡ holding (s .clock) (s .phase) (e .first) (e .last) (e .kind) (e .route) (e .«request_time»)
     resumes s e u = rw u
 
-one-open : (u : Bool) (e : Shift) → length (with u e []) ≡ cond u 1 0
-one-open true e = refl
-one-open false e = refl
-
 -- ---- what it lays of accepted records
 module _ (s : State) (e : Shift) (count : ℕ) (bytes : List ℕ) (h : Sound (traceOf s) (recordsIn bytes)) where
   abbrev w : Walk
@@ -81,16 +76,6 @@ module _ (s : State) (e : Shift) (count : ℕ) (bytes : List ℕ) (h : Sound (tr
 
   walks-so : laidBy w count (codedIn bytes) ≡ walks (traceOf s)
   walks-so = laid-as-listed w count bytes sound ∙ makes w count rs sound ∙ ap walks trace
-
-  pub many : openAt (w .phase) + requestsBy (codedIn bytes) ≡ length (laidBy w count (codedIn bytes))
-  many =
-      let u = unfinished (s .phase) in
-      let a = ap length walks-so ∙ with-length u (wholeOn (inHand w) count (traceOf s) rs) (shiftsOn count (traceOf s) rs) in
-      let b = one-open u (wholeOn (inHand w) count (traceOf s) rs) in
-      let c = as-many count (traceOf s) rs in
-      let d = requests-same w count bytes sound in
-      let o = ap (λ (t : Trace). openAt (t .phase)) trace in
-      omega (arith, a, b, c, d, o)
 
   pub laid-same :
       (unfinished (s .phase) ≡ true → (e .end ≡ 0) × (e .age ≡ s .clock - e .«request_time»))
@@ -167,9 +152,7 @@ module _ (l : List ℕ) (held : ℕ) (s : State) (count : ℕ) (t : Table) (byte
           (λ u. (its-end (length l) held (u32At l 0) (lastEntry l held s count t bytes) s count (length bytes / 4) told u, its-age (length l) held (u32At l 0) (lastEntry l held s count t bytes) s count (length bytes / 4) told u))
 
       is-size : sizeWith l (placeOf held s) walk count bytes ≡ n
-      is-size =
-          let a = many s (lastEntry l held s count t bytes) count bytes sound-new ∙ ap length is-laid in
-          omega (arith, a)
+      is-size = ap (λ es. placeOf held s + 16 * length es) is-laid
 
       over : fitting n (length l) ≡ extendedOf l held s count t bytes
       over =

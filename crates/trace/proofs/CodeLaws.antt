@@ -1,9 +1,8 @@
--- A record's code and amount are those of the step that it means, and tell where it leads.
+-- A record's code and amount are those of the step that it means.
 -- Assumes nothing.
 use mathlib.Core.Path.{_≡_, refl, sym, ap}
 use mathlib.Core.Bool.{Bool, true, false, cond, _&&_}
-use Prim.Native.Nat.{ℕ, zero, suc, _+_}
-use native.Mathlib.Nat.{add-zero}
+use Prim.Native.Nat.{ℕ, zero, suc}
 use native.Mathlib.Omega.{arith}
 use lib.Dec.{leb, eqb, eqb→eq}
 use Rattle.checks.proofs.Tests.{passes, right}
@@ -12,7 +11,6 @@ use Rattle.shift.specs.declared.Step.the-variants.{FromNeutral, GearToGear, ToN
 use Rattle.shift.specs.declared.Reading.{Reading}
 use Rattle.shift.specs.declared.Reading.the-variants.{Means, WrongCode, WrongAmount}
 use Rattle.shift.specs.Answers.{reading, plain, ticking}
-use Rattle.trace.specs.Traces.{Trace, stepped, phaseBy}
 
 abbrev pub codeOf : Step → ℕ
 codeOf FromNeutral = 1
@@ -89,19 +87,3 @@ module _ (m n : ℕ) (x : Step) where
   its-own (suc (suc (suc (suc (suc (suc (suc (suc (suc (suc (suc (suc zero)))))))))))) e = ticks e
   its-own (suc (suc (suc (suc (suc (suc (suc (suc (suc (suc (suc (suc (suc zero))))))))))))) e = plainly Reset refl e
   its-own (suc (suc (suc (suc (suc (suc (suc (suc (suc (suc (suc (suc (suc (suc c)))))))))))))) e = none e
-
--- where it leads
-pub leads-by-code : (t : Trace) (x : Step) → record { clock = t .clock + amountOf x; phase = phaseBy (t .phase) (codeOf x) } ≡ stepped t x
-leads-by-code t FromNeutral = rw (add-zero (t .clock))
-leads-by-code t GearToGear = rw (add-zero (t .clock))
-leads-by-code t ToNeutral = rw (add-zero (t .clock))
-leads-by-code t Deliver = rw (add-zero (t .clock))
-leads-by-code t DeviceGood = rw (add-zero (t .clock))
-leads-by-code t DeviceFailed = rw (add-zero (t .clock))
-leads-by-code t EngineWaits = rw (add-zero (t .clock))
-leads-by-code t Take = rw (add-zero (t .clock))
-leads-by-code t AskClutch = rw (add-zero (t .clock))
-leads-by-code t RaiseError = rw (add-zero (t .clock))
-leads-by-code t Finish = rw (add-zero (t .clock))
-leads-by-code t (Tick n) = refl
-leads-by-code t Reset = rw (add-zero (t .clock))

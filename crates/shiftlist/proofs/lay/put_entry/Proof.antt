@@ -1,28 +1,26 @@
--- `put_entry` meets its contract: six numbers, one after the other.
+-- `put_entry` meets its contract: its numbers in a part of their own, or at the place.
 -- Assumes nothing.
-use Prim.Native.Nat.{_+_, _*_}
+use mathlib.Core.Path.{refl, ap, _∙_}
+use Prim.Native.Nat.{_+_, _-_}
 use borrow.Author.Needs.{needs}
-use Rattle.shiftlist.proofs.StoreLaws.{numbers-stored}
+use borrow.Rule.Slice.PartMut.{putMid}
+use Rattle.numbers.specs.Bytes.{bytesOf}
+use Rattle.shiftlist.specs.Lists.{numbersOf}
+use Rattle.shiftlist.proofs.StoreLaws.{part-stored}
 use Rattle.shiftlist.proofs.lay.put_entry.Statement.{statement}
 use Rattle.shiftlist.proofs.lay.put_entry.Tie as tie
 
-returns : tie.Need-returns
-returns c =
-    let p5 = c .before .before .before .before .before .before in
-    let p4 = p5 .before .before .before .before in
-    let p3 = p4 .before .before .before .before .before in
-    let p2 = p3 .before .before .before .before in
-    let p1 = p2 .before .before .before .before in
-    let a = p1 .before .before .before .args in
-    let e = a .e in
-    rw (c .before .before .put322 .ensures, p5 .put32 .ensures, p4 .put4 .ensures, p3 .put3 .ensures, p2 .put2 .ensures, p1 .put .ensures)
-    (numbers-stored (a .list .now) (a .at) (e .first) (e .last) (e .kind + 256 * e .route) (e .end) (e .«request_time») (e .age))
+returns-2 : tie.Need-returns-2
+returns-2 c =
+    let a = c .before .before .before .before .before .before .args in
+    let l = a .list .now in
+    ap (putMid (a .at) (a .at + 16 - a .at) l) (c .before .before .put-numbers2 .ensures)
+    ∙ part-stored l (bytesOf (numbersOf (a .e))) (a .at) (a .at + 16) refl (c .before .before .before .before .if1 .left)
 
 pub put-entry-spec : {M : Type 1} → statement M
 put-entry-spec =
     tie.close
     (tie.spec
-    (λ c κs. search needs)
     (λ c. search needs)
     (λ c κs. search needs)
     (λ c. search needs)
@@ -32,11 +30,4 @@ put-entry-spec =
     (λ c. search needs)
     (λ c κs. search needs)
     (λ c. search needs)
-    (λ c. search needs)
-    (λ c κs. search needs)
-    (λ c. search needs)
-    (λ c κs. search needs)
-    (λ c. search needs)
-    (λ c κs. search needs)
-    (λ c. search needs)
-    returns)
+    returns-2)
