@@ -21,9 +21,9 @@ extern "C" {
 /* The numbers that a call answers. */
 enum {
     MUNASIREL_ACCEPTED = 0,
-    MUNASIREL_TOO_SHORT = 1,            /* a file of fewer than 12 bytes */
-    MUNASIREL_BAD_HEADER = 2,           /* a header field is wrong, or too many records */
-    MUNASIREL_BAD_LENGTH = 3,           /* the file's length is wrong; for the writer, two lists of unequal length */
+    MUNASIREL_TOO_SHORT = 1,            /* a file of fewer than 12 bytes, or a list of fewer than 8 */
+    MUNASIREL_BAD_HEADER = 2,           /* a header field is wrong, or too many records, or more shifts than records */
+    MUNASIREL_BAD_LENGTH = 3,           /* a file or a list has a wrong length; for the writer, unequally many codes and amounts */
     MUNASIREL_TABLE_NOT_ADMITTED = 4,   /* the table breaks a rule */
     MUNASIREL_BAD_CODE = 5,             /* code 0 or above 13 */
     MUNASIREL_BAD_AMOUNT = 6,           /* the middle byte or the amount is wrong */
@@ -34,8 +34,9 @@ enum {
     MUNASIREL_PAST_PHASE_LIMIT = 11,    /* a tick past the phase limit */
     MUNASIREL_PAST_STAGE_LIMIT = 12,    /* a tick past the channel or device limit */
     MUNASIREL_PAST_CLOCK = 13,          /* the clock would pass 4,294,967,295 */
-    MUNASIREL_GAP = 14,                 /* a part begins beyond the bytes held */
-    MUNASIREL_NO_ROOM = 15,             /* what is held, joined or written does not fit */
+    MUNASIREL_GAP = 14,                 /* a part begins beyond the bytes held; a shift number is at or past the count; a state does
+                                         * not fit the list */
+    MUNASIREL_NO_ROOM = 15,             /* what is held, joined, written or listed does not fit */
     MUNASIREL_OVERLAP_DIFFERS = 16      /* a part differs from the bytes held */
 };
 
@@ -84,10 +85,16 @@ enum {
 /* The phases outside a shift. A shift is unfinished in phases 1 to 21. In phase 23 only ticks and a reset are accepted. */
 enum { MUNASIREL_PHASE_AT_REST = 0, MUNASIREL_PHASE_DONE = 22, MUNASIREL_PHASE_ERROR = 23 };
 
-/* The most records of a file, the longest good file, and room for any line, in bytes. */
+/* Of a shift in a list: the kind, which is the code of its request; the route; and the end. */
+enum { MUNASIREL_KIND_FROM_NEUTRAL = 1, MUNASIREL_KIND_GEAR_TO_GEAR = 2, MUNASIREL_KIND_TO_NEUTRAL = 3 };
+enum { MUNASIREL_ROUTE_NO_CLUTCH = 0, MUNASIREL_ROUTE_CLUTCH = 1 };
+enum { MUNASIREL_END_OPEN = 0, MUNASIREL_END_DONE = 1, MUNASIREL_END_ERROR = 2 };
+
+/* The most records of a file, the longest good file, room for any line and for the list of any file, in bytes. */
 #define MUNASIREL_MOST_RECORDS 16372
 #define MUNASIREL_LONGEST_FILE 65536
 #define MUNASIREL_LINE_ROOM 64
+#define MUNASIREL_LONGEST_LIST 261960
 
 /* The limit table: eighteen limits in milliseconds, in the order of their entry numbers 0 to 17. */
 typedef struct munasirel_limits {
@@ -132,6 +139,34 @@ typedef struct munasirel_judged {
     uint64_t excess;       /* how far over the refused record is, 0 but with 9 to 13 */
     munasirel_state state; /* after the records accepted; the start with 1 to 4 */
 } munasirel_judged;
+
+/* One shift of a file. A list of shifts has a header of 8 bytes, which are the count of shifts and the offset of the first entry,
+ * always 8, of 32 bits each; then 16 bytes a shift, in the order of the requests. An entry is laid out as this struct is, low byte
+ * first and with a zero byte where the padding is. */
+typedef struct munasirel_shift {
+    uint16_t first;        /* the index of the record that is the request */
+    uint16_t last;         /* of the one that enters phase 22 or 23, else of the file's last */
+    uint8_t kind;          /* MUNASIREL_KIND_FROM_NEUTRAL to MUNASIREL_KIND_TO_NEUTRAL */
+    uint8_t route;         /* MUNASIREL_ROUTE_CLUTCH where the clutch was asked for, else MUNASIREL_ROUTE_NO_CLUTCH */
+    uint8_t end;           /* MUNASIREL_END_OPEN to MUNASIREL_END_ERROR */
+    uint32_t request_time; /* the clock at the request */
+    uint32_t age;          /* the clock at the last record, less the request time */
+} munasirel_shift;
+
+/* How a list of shifts was made. The padding bytes may hold anything. */
+typedef struct munasirel_listed {
+    uint8_t number;  /* 0 where the list stands in the buffer, or the number that refuses it */
+    uint8_t rule;    /* the number of the broken rule with 4, else 0 */
+    size_t index;    /* the index in the file of the record that the judge refuses with 5 to 13, else 0 */
+    uint64_t excess; /* how far over that record is, 0 but with 9 to 13 */
+    size_t length;   /* the list's length, 0 where it is refused */
+} munasirel_listed;
+
+/* A shift fetched from a list. The padding bytes may hold anything. */
+typedef struct munasirel_fetched {
+    uint8_t number;        /* 0, or the number that refuses it */
+    munasirel_shift shift; /* the entry; every field is 0 where it is refused */
+} munasirel_fetched;
 
 /* Judges a step file from the start state.
  *   file, file_length   the file's bytes, any number of them
@@ -180,9 +215,9 @@ uint8_t munasirel_join(uint8_t *buffer, size_t buffer_length, size_t *held, size
  *   length                    is set to the file's length, or to 0 where it is refused
  *   index                     is set to the index of the wrong record with 5 and 6, else to 0
  *   rule                      is set to the number of the broken rule with 4, else to 0
- * Returns 0, or 3 for lists of unequal length, 2 for more than 16,372 records, 4 for a table that is not admitted, 5 or 6 for the
- * first record with a wrong code or amount, or 15 where the file does not fit, tested in this order. A refused call changes no byte
- * of out. Whether the steps are allowed one after the other is not tested: that is for the judge. */
+ * Returns 0, or 3 for unequally many codes and amounts, 2 for more than 16,372 records, 4 for a table that is not admitted, 5 or 6
+ * for the first record with a wrong code or amount, or 15 where the file does not fit, tested in this order. A refused call changes
+ * no byte of out. Whether the steps are allowed one after the other is not tested: that is for the judge. */
 uint8_t munasirel_write(munasirel_limits table, uint8_t with_table, const uint8_t *codes, size_t codes_length,
                         const uint32_t *amounts, size_t amounts_length, uint8_t *out, size_t out_length, size_t *length,
                         size_t *index, uint8_t *rule);
@@ -209,6 +244,45 @@ uint8_t munasirel_advance(munasirel_state *state, munasirel_limits table, uint8_
  * refuses the first. A block without a whole record is accepted under any table. */
 uint8_t munasirel_advance_block(munasirel_state *state, munasirel_limits table, const uint8_t *records, size_t records_length,
                                 size_t *accepted, uint64_t *excess);
+
+/* Judges a step file and lays the list of its shifts into a buffer.
+ *   file, file_length   the file's bytes, any number of them
+ *   out, out_length     where the list is laid, at the start; the bytes after it stay as they are
+ * Returns the number 0 and the list's length; or the number that refuses the file, 1 to 13, with rule, index and excess as the
+ * verdict has them, or else 15 where the list does not fit. A refused call changes no byte of out. */
+munasirel_listed munasirel_list(const uint8_t *file, size_t file_length, uint8_t *out, size_t out_length);
+
+/* Fetches a shift from a list without stepping through the file.
+ *   list, list_length   the list's bytes, any number of them; the entry is handed back as it stands
+ *   number              which shift, counted from 0
+ * Returns the number 0 and the entry; or 1 for a list of fewer than 8 bytes, 2 where the offset in its header is not 8, 3 where its
+ * length is not 8 + 16 x the count, or 14 for a number at or past the count, tested in this order. */
+munasirel_fetched munasirel_fetch(const uint8_t *list, size_t list_length, size_t number);
+
+/* Extends a list where records are appended to its file, without the records that were there. From the list of an accepted file,
+ * the end state of its verdict, its count of records and its table it makes, byte for byte, the list of the longer file.
+ *   list, list_length         the first held bytes are the list. A last entry that is open goes on, the new shifts' entries are put
+ *                             behind it, and the count of shifts is set; all other bytes stay as they are
+ *   held                      the length of the list
+ *   state                     the judge's at the end of the file as it was. Any state may be given
+ *   count                     how many records the file had
+ *   table                     the limits to judge under
+ *   records, records_length   the bytes of the records appended, any number of them: four a record, as in a step file. One to three
+ *                             bytes left over behind the last whole record are not looked at
+ * Returns the number 0 and the length of the longer list; or, tested in this order,
+ *   15 where held exceeds list_length,
+ *   1, 2 or 3 where the held bytes are not a list, as munasirel_fetch has it,
+ *   2 where there would be more than 16,372 records, and where the list has more shifts than count,
+ *   4 where the table is not admitted, with the rule, also where there is no new record,
+ *   14 where state and list do not fit. In phases 1 to 21 they fit where the last entry is open, its last record is count - 1, its
+ *      request time is the state's, and its age is the state's clock less that, or 0 where that would be below 0. In every other
+ *      phase they fit where the list is empty, or its last entry is not open and its last record is below count,
+ *   5 to 13 where a new record is refused, as munasirel_advance_block has it; the index is count + that in the records appended,
+ *   15 where the longer list does not fit list_length.
+ * A refused call changes no byte of list. Whether the list is that of the file is not tested further: its entries are taken as they
+ * stand, but the eighth byte of one that goes on becomes 0. */
+munasirel_listed munasirel_extend(uint8_t *list, size_t list_length, size_t held, munasirel_state state, uint32_t count,
+                                  munasirel_limits table, const uint8_t *records, size_t records_length);
 
 #ifdef __cplusplus
 }
@@ -240,6 +314,24 @@ MUNASIREL_HOLDS(offsetof(munasirel_judged, rule) == 1);
 MUNASIREL_HOLDS(offsetof(munasirel_judged, accepted) == 8);
 MUNASIREL_HOLDS(offsetof(munasirel_judged, excess) == 16);
 MUNASIREL_HOLDS(offsetof(munasirel_judged, state) == 24);
+MUNASIREL_HOLDS(sizeof(munasirel_shift) == 16);
+MUNASIREL_HOLDS(offsetof(munasirel_shift, first) == 0);
+MUNASIREL_HOLDS(offsetof(munasirel_shift, last) == 2);
+MUNASIREL_HOLDS(offsetof(munasirel_shift, kind) == 4);
+MUNASIREL_HOLDS(offsetof(munasirel_shift, route) == 5);
+MUNASIREL_HOLDS(offsetof(munasirel_shift, end) == 6);
+MUNASIREL_HOLDS(offsetof(munasirel_shift, request_time) == 8);
+MUNASIREL_HOLDS(offsetof(munasirel_shift, age) == 12);
+MUNASIREL_HOLDS(sizeof(munasirel_listed) == 32);
+MUNASIREL_HOLDS(offsetof(munasirel_listed, number) == 0);
+MUNASIREL_HOLDS(offsetof(munasirel_listed, rule) == 1);
+MUNASIREL_HOLDS(offsetof(munasirel_listed, index) == 8);
+MUNASIREL_HOLDS(offsetof(munasirel_listed, excess) == 16);
+MUNASIREL_HOLDS(offsetof(munasirel_listed, length) == 24);
+MUNASIREL_HOLDS(sizeof(munasirel_fetched) == 20);
+MUNASIREL_HOLDS(offsetof(munasirel_fetched, number) == 0);
+MUNASIREL_HOLDS(offsetof(munasirel_fetched, shift) == 4);
+MUNASIREL_HOLDS(MUNASIREL_LONGEST_LIST == 8 + 16 * MUNASIREL_MOST_RECORDS);
 #undef MUNASIREL_HOLDS
 
 #endif
