@@ -1,5 +1,6 @@
-/* Holds the library and the C version to each other: on the files named, on files made by chance, half of them damaged, and on
- * single records and blocks of 0 to 300 bytes at any state and under any table. The records of the files named come in blocks too.
+/* Holds the library and the C version to each other: on the files named, on files made by chance, half of them damaged, on single
+ * records and blocks of 0 to 300 bytes at any state and under any table, and on lists of shifts, what is fetched from them and their
+ * extensions. The records of the files named come in blocks too, and extend their lists.
  *
  *     agree FILE..
  *
@@ -8,17 +9,14 @@
 #include <stdio.h>
 #include <string.h>
 
-#include "reference.h"
-#include "rules.h"
+#include "chance.h"
 
-enum { MADE_FILES = 20000, MADE_RECORDS = 200000, MADE_BLOCKS = 40000, LONGEST_BLOCK = 300 };
-
-static uint8_t file[MUNASIREL_LONGEST_FILE + 1];
-static size_t file_length;
+enum { MADE_FILES = 20000, MADE_RECORDS = 200000, MADE_BLOCKS = 40000, MADE_EXTENSIONS = 40000 };
 
 /* How often each number, rule and kind of block and an excess above 32 bits came up. */
 enum { ACCEPTED, REFUSED_FIRST, REFUSED_LATER, BAD_TABLE, EMPTY, KINDS }; /* a block without a whole record is empty */
 static unsigned numbers_of_files[14], numbers_of_records[14], numbers_of_blocks[14], rules[16], kinds[KINDS], above_32_bits;
+static unsigned numbers_of_lists[16], numbers_of_fetches[16], numbers_of_extensions[16];
 
 /* ---- the comparison */
 static munasirel_limits limits_in(const uint16_t table[LIMITS])
@@ -88,166 +86,86 @@ static int same_block(munasirel_state *state, const uint16_t table[LIMITS], cons
            excess == c_excess && same_state(state, &c);
 }
 
-/* ---- chance, the same in every run */
-static uint32_t below(uint32_t bound)
+static int same_listed(const munasirel_listed *a, const munasirel_listed *b)
 {
-    static uint64_t chance = 1;
-    chance ^= chance << 13;
-    chance ^= chance >> 7;
-    chance ^= chance << 17;
-    return (uint32_t)(chance >> 32) % bound;
+    return a->number == b->number && a->rule == b->rule && a->index == b->index && a->excess == b->excess && a->length == b->length;
 }
 
-static int once_in(uint32_t bound)
+static int same_fetch(const uint8_t *list, size_t length, size_t number)
 {
-    return below(bound) == 0;
+    munasirel_fetched library = munasirel_fetch(list, length, number), c = reference_fetch(list, length, number);
+    const munasirel_shift *a = &library.shift, *b = &c.shift;
+    numbers_of_fetches[library.number]++;
+    return library.number == c.number && a->first == b->first && a->last == b->last && a->kind == b->kind && a->route == b->route &&
+           a->end == b->end && a->request_time == b->request_time && a->age == b->age;
 }
 
-/* A table that keeps each rule narrowly, or with one entry changed. */
-static void make_table(uint16_t table[LIMITS])
+/* The lists in a room, with what lies behind it; and each shift of them, and one more. */
+static int same_list_in(size_t room)
 {
-    for (int i = CHANNEL_DL; i <= GEAR_RELEASE_DL; i++)
-        table[i] = 1 + below(40);
-    uint16_t channels = 2 * table[CHANNEL_DL];
-    table[SYNC_EX] = channels + table[ENGINE_SYNC_DL] + below(2);
-    table[ZERO_EX] = channels + table[ENGINE_ZERO_DL] + below(2);
-    table[OPEN_CLUTCH_DL] = channels + table[CLUTCH_OPEN_DL] + 1 + below(2);
-    table[CLOSE_CLUTCH_DL] = channels + table[CLUTCH_CLOSE_DL] + 1 + below(2);
-    table[SET_GEAR_DL] = channels + table[GEAR_SET_DL] + 1 + below(2);
-    table[RELEASE_DL] = channels + table[GEAR_RELEASE_DL] + 1 + below(2);
-    table[SYNC_DE] = table[SYNC_EX] + 1 + below(2);
-    table[ZERO_DE] = table[ZERO_EX] + 1 + below(2);
-    table[SYNC_DL] = table[SYNC_DE] + below(2);
-    table[ZERO_DL] = table[ZERO_DE] + (once_in(2) ? below(2) : below(200));
-    uint16_t f = table[SYNC_DL] + table[OPEN_CLUTCH_DL] + table[SET_GEAR_DL] + table[CLOSE_CLUTCH_DL];
-    uint16_t n = table[ZERO_DL] + table[OPEN_CLUTCH_DL] + table[RELEASE_DL] + table[CLOSE_CLUTCH_DL];
-    uint16_t g1 = table[ZERO_EX] + table[RELEASE_DL] + f, g2 = n + table[SET_GEAR_DL];
-    const uint16_t sums[] = {f, n, g1, g2, g1 > g2 ? g1 : g2};
-    table[CHANGE_DL] = sums[once_in(4) ? below(4) : 4];
-    if (once_in(4))
-        table[below(LIMITS)] += 2 * below(2) - 1;
-    else if (once_in(20))
-        table[below(LIMITS)] = below(2);
+    static uint8_t library[MUNASIREL_LONGEST_LIST + LIST_GUARD], c[MUNASIREL_LONGEST_LIST + LIST_GUARD];
+    memset(library, 77, room + LIST_GUARD);
+    memset(c, 77, room + LIST_GUARD);
+    munasirel_listed listed = munasirel_list(file, file_length, library, room);
+    munasirel_listed c_listed = reference_list(file, file_length, c, room);
+    int same = same_listed(&listed, &c_listed) && memcmp(library, c, room + LIST_GUARD) == 0;
+    numbers_of_lists[listed.number]++;
+    for (size_t number = 0; same && listed.number == 0 && number <= (listed.length - LIST_HEADER) / ENTRY; number++)
+        same = same_fetch(library, listed.length, number);
+    return same;
 }
 
-/* A step of any kind; a tick ends nearby, or at a limit or right beside it. */
-static void make_record(const munasirel_state *state, const uint16_t table[LIMITS], uint8_t record[4])
+static int same_list(void)
 {
-    int is_tick = once_in(2);
-    uint16_t limit = table[below(LIMITS)];
-    const uint32_t ends[] = {state->clock + below(6), state->stage_time + limit, state->phase_time + limit, UINT32_MAX};
-    uint16_t amount = is_tick ? ends[below(4)] + below(3) - 1 - state->clock : 0;
-    uint8_t other = 1 + below(MUNASIREL_STEP_RESET - 1);
-    record[0] = is_tick ? MUNASIREL_STEP_TICK : other == MUNASIREL_STEP_TICK ? MUNASIREL_STEP_RESET : other;
-    record[1] = 0;
-    record[2] = amount & 255;
-    record[3] = amount >> 8;
-    if (once_in(100))
-        record[below(4)] = below(256);
+    static uint8_t list[MUNASIREL_LONGEST_LIST];
+    size_t length = reference_list(file, file_length, list, sizeof list).length;
+    return same_list_in(length) && same_list_in(length + below(40)) && same_list_in(length > 0 ? length - 1 : 0) &&
+           same_list_in(below(LIST_HEADER));
 }
 
-static void put_numbers(uint8_t *bytes, const uint16_t *numbers, size_t count)
+/* Extends the list. */
+static int same_extension(void)
 {
-    for (size_t i = 0; i < count; i++) {
-        bytes[2 * i] = numbers[i] & 255;
-        bytes[2 * i + 1] = numbers[i] >> 8;
-    }
-}
-
-/* A file of steps that, but for a few, are allowed one after the other. */
-static void make_file(void)
-{
-    uint16_t table[LIMITS], entries = once_in(2) ? LIMITS : 0, count = 0;
-    munasirel_state state = {0};
-    uint64_t excess;
-    memcpy(table, default_table, sizeof default_table);
-    if (entries != 0)
-        make_table(table);
-    for (uint32_t tries = below(1000); tries > 0; tries--) {
-        uint8_t *record = file + 12 + 2 * entries + 4 * count;
-        make_record(&state, table, record);
-        if (reference_advance(&state, table, record, &excess) == 0 || once_in(400))
-            count++;
-    }
-    const uint16_t header[] = {12, entries, 12 + 2 * entries, 0, count, 0};
-    put_numbers(file, header, 6);
-    put_numbers(file + 12, table, entries);
-    file_length = 12 + 2 * (size_t)entries + 4 * (size_t)count;
-}
-
-/* One byte changed, or another length. */
-static void damage_file(void)
-{
-    switch (below(4)) {
-    case 0:
-        file[below(12)] = below(256);
-        break;
-    case 1:
-        file[below((uint32_t)file_length)] = below(256);
-        break;
-    case 2:
-        file_length = below((uint32_t)file_length);
-        break;
-    default:
-        file_length += 1 + below(8);
-    }
-}
-
-/* Any state: nearly listed, its times shortly before its clock, or not; before the clock's beginning they lie at its end. */
-static void make_state(munasirel_state *state)
-{
-    const uint32_t clocks[] = {UINT32_MAX - below(70000), below(30), 1000 + below(1000), 1000 + below(1000)};
-    state->clock = clocks[below(4)];
-    state->gear_box = once_in(20) ? below(256) : below(2);
-    state->phase = once_in(20) ? below(256) : below(24);
-    state->phase_time = state->clock - (once_in(20) ? below(UINT32_MAX) : below(300));
-    state->stage = once_in(20) ? below(256) : below(6);
-    state->stage_time = state->clock - (once_in(20) ? below(UINT32_MAX) : below(300));
-    state->request_time = below(UINT32_MAX);
-    state->failed_phase = below(256);
-}
-
-/* A block of any length: steps that, but for a few, are allowed one after the other from the state on, up to one for which none was
- * found, and bytes left over. Returns its length. */
-static size_t make_block(munasirel_state state, const uint16_t table[LIMITS], uint8_t block[LONGEST_BLOCK])
-{
-    size_t length = below(LONGEST_BLOCK + 1);
-    uint64_t excess;
-    int most = 50;
-    for (size_t at = 0; at < length; at++)
-        block[at] = below(256);
-    for (size_t at = 0; at + 4 <= length; at += 4) {
-        int tries = once_in(100) ? 1 : most;
-        do
-            make_record(&state, table, block + at);
-        while (reference_advance(&state, table, block + at, &excess) != 0 && --tries > 0);
-        if (tries == 0)
-            most = 1;
-    }
-    return length;
+    static uint8_t c[sizeof extension.list];
+    size_t size = extension.room + LIST_GUARD;
+    memcpy(c, extension.list, size);
+    munasirel_listed listed = munasirel_extend(extension.list, extension.room, extension.held, extension.state, extension.count,
+                                               limits_in(extension.table), extension.records, extension.length);
+    munasirel_listed c_listed = reference_extend(c, extension.room, extension.held, extension.state, extension.count,
+                                                 extension.table, extension.records, extension.length);
+    numbers_of_extensions[listed.number]++;
+    if (listed.number == 0)
+        extension.held = listed.length;
+    return same_listed(&listed, &c_listed) && memcmp(extension.list, c, size) == 0;
 }
 
 /* ---- the runs: each answers how often the two differ, but the first whether they agree */
 static int same_in_blocks(void)
 {
+    static uint8_t fresh[MUNASIREL_LONGEST_LIST];
     uint8_t number = munasirel_judge(file, file_length);
-    munasirel_limits limits = munasirel_table(file, file_length);
-    munasirel_state state = {0};
-    uint16_t table[LIMITS];
     if (number >= MUNASIREL_TOO_SHORT && number <= MUNASIREL_TABLE_NOT_ADMITTED)
         return 1;
-    memcpy(table, &limits, sizeof table);
+    memset(&extension, 0, sizeof extension);
+    put_u32(extension.list + 4, LIST_HEADER);
+    extension.held = LIST_HEADER;
+    extension.room = MUNASIREL_LONGEST_LIST;
+    read_table(file, extension.table);
     for (size_t at = file[4]; at < file_length;) {
         size_t length = below(LONGEST_BLOCK + 1), accepted;
         if (length > file_length - at)
             length = file_length - at;
-        if (!same_block(&state, table, file + at, length, &accepted))
+        extension.length = length;
+        memcpy(extension.records, file + at, length);
+        if (!same_extension() || !same_block(&extension.state, extension.table, file + at, length, &accepted))
             return 0;
         if (accepted < length / 4)
-            break;
+            return 1;
+        extension.count += (uint32_t)accepted;
         at += 4 * accepted;
     }
-    return 1;
+    return extension.held == munasirel_list(file, file_length, fresh, sizeof fresh).length &&
+           memcmp(extension.list, fresh, extension.held) == 0;
 }
 
 static unsigned compare_named(int count, char **names)
@@ -259,8 +177,11 @@ static unsigned compare_named(int count, char **names)
         if (!from || ferror(from) || !same_verdict()) {
             printf("%s: the verdicts differ, or it can not be read\n", names[i]);
             differ++;
+        } else if (!same_list()) {
+            printf("%s: the lists differ\n", names[i]);
+            differ++;
         } else if (!same_in_blocks()) {
-            printf("%s: the answers to blocks of it differ\n", names[i]);
+            printf("%s: the answers to blocks of it differ, or the list extended by them\n", names[i]);
             differ++;
         }
         if (from)
@@ -276,8 +197,8 @@ static unsigned compare_made(void)
         make_file();
         if (i % 2 == 1)
             damage_file();
-        if (!same_verdict()) {
-            printf("file %d made by chance: the verdicts differ\n", i);
+        if (!same_verdict() || !same_list()) {
+            printf("file %d made by chance: the verdicts or the lists differ\n", i);
             differ++;
         }
     }
@@ -321,6 +242,19 @@ static unsigned compare_blocks(void)
     return differ;
 }
 
+static unsigned compare_extensions(void)
+{
+    unsigned differ = 0;
+    for (int i = 0; i < MADE_EXTENSIONS; i++) {
+        make_extension();
+        if ((extension.held <= extension.room && !same_fetch(extension.list, extension.held, below(10))) || !same_extension()) {
+            printf("extension %d made by chance: the answers differ\n", i);
+            differ++;
+        }
+    }
+    return differ;
+}
+
 /* How much of that never came up; a file never gives 10, and would have to be longer to give 13. */
 static unsigned never_came_up(void)
 {
@@ -329,6 +263,11 @@ static unsigned never_came_up(void)
         never += i != 10 && i != 13 && numbers_of_files[i] == 0;
         never += (i == 0 || i >= 4) && numbers_of_records[i] == 0;
         never += (i == 0 || i >= 4) && numbers_of_blocks[i] == 0;
+    }
+    for (unsigned i = 0; i < 16; i++) {
+        never += i != 10 && i != 13 && i != 14 && numbers_of_lists[i] == 0;
+        never += (i <= 3 || i == 14) && numbers_of_fetches[i] == 0;
+        never += numbers_of_extensions[i] == 0;
     }
     for (unsigned i = 0; i < 16; i++)
         never += rules[i] == 0;
@@ -339,12 +278,15 @@ static unsigned never_came_up(void)
 
 int main(int words, char **word)
 {
-    unsigned differ = compare_named(words - 1, word + 1) + compare_made() + compare_records() + compare_blocks();
+    unsigned differ =
+        compare_named(words - 1, word + 1) + compare_made() + compare_records() + compare_blocks() + compare_extensions();
     unsigned never = never_came_up();
     printf("Blocks, with those of the files: %u accepted, %u refused at the first record, %u later, %u with 4, %u empty.\n",
            kinds[ACCEPTED], kinds[REFUSED_FIRST], kinds[REFUSED_LATER], kinds[BAD_TABLE], kinds[EMPTY]);
-    printf("Held to each other on %d files, %d made by chance, %d single records and %d blocks: ", words - 1, MADE_FILES,
-           MADE_RECORDS, MADE_BLOCKS);
+    printf("Extensions of lists, with those of the files: %u accepted, %u not fitting their state, %u without room.\n",
+           numbers_of_extensions[0], numbers_of_extensions[MUNASIREL_GAP], numbers_of_extensions[MUNASIREL_NO_ROOM]);
+    printf("Held to each other on %d files, %d made by chance, %d single records, %d blocks and %d extensions: ", words - 1,
+           MADE_FILES, MADE_RECORDS, MADE_BLOCKS, MADE_EXTENSIONS);
     printf("%u differ, %u cases never came up.\n", differ, never);
     return differ == 0 && never == 0 ? 0 : 1;
 }

@@ -5,36 +5,6 @@
 #include "reference.h"
 #include "rules.h"
 
-static uint32_t u32_at(const uint8_t *bytes)
-{
-    return u16_at(bytes) | (uint32_t)u16_at(bytes + 2) << 16;
-}
-
-/* 1, 2 or 3 for a file whose header or length is wrong, else 0. */
-static uint8_t refused_header(const uint8_t *file, size_t file_length)
-{
-    if (file_length < 12)
-        return MUNASIREL_TOO_SHORT;
-    uint16_t table_offset = u16_at(file);
-    uint16_t entries = u16_at(file + 2);
-    uint32_t record_offset = u32_at(file + 4);
-    uint32_t count = u32_at(file + 8);
-    if (table_offset != 12 || (entries != 0 && entries != LIMITS) || record_offset != 12u + 2u * entries ||
-        count > MUNASIREL_MOST_RECORDS)
-        return MUNASIREL_BAD_HEADER;
-    if (file_length != record_offset + 4 * (size_t)count)
-        return MUNASIREL_BAD_LENGTH;
-    return MUNASIREL_ACCEPTED;
-}
-
-/* The table of a file with a good header. */
-static void read_table(const uint8_t *file, uint16_t table[LIMITS])
-{
-    int entries = u16_at(file + 2);
-    for (int i = 0; i < LIMITS; i++)
-        table[i] = entries == 0 ? default_table[i] : u16_at(file + 12 + 2 * i);
-}
-
 munasirel_judged reference_verdict(const uint8_t *file, size_t file_length)
 {
     munasirel_state state = {0};

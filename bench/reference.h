@@ -19,4 +19,14 @@ uint8_t reference_advance(munasirel_state *state, const uint16_t table[18], cons
 uint8_t reference_advance_block(munasirel_state *state, const uint16_t table[18], const uint8_t *records, size_t length,
                                 size_t *accepted, uint64_t *excess);
 
+/* Judges a step file and lays the list of its shifts at the start of out; what is refused changes no byte of it. */
+munasirel_listed reference_list(const uint8_t *file, size_t file_length, uint8_t *out, size_t out_length);
+
+/* Fetches a shift from any bytes that may be a list. */
+munasirel_fetched reference_fetch(const uint8_t *list, size_t list_length, size_t number);
+
+/* Extends a list by the records appended to its file, on any list, state, count and table; what is refused changes no byte. */
+munasirel_listed reference_extend(uint8_t *list, size_t list_length, size_t held, munasirel_state state, uint32_t count,
+                                  const uint16_t table[18], const uint8_t *records, size_t records_length);
+
 #endif

@@ -1,9 +1,20 @@
-/* The rules of document 01 in straightforward C: the limit table, the phases, the thirteen steps, what a record's bytes mean.
- * The judge, the running judge and its blocks each compile their own copy. */
+/* The rules of document 01 in straightforward C: the limit table, the phases, the thirteen steps, what a file's and a record's bytes
+ * mean. The judge, the running judge, its blocks, the list and its extension each compile their own copy. */
 #ifndef RULES_H
 #define RULES_H
 
 #include "munasirel.h"
+
+/* ---- numbers in bytes */
+static inline uint16_t u16_at(const uint8_t *bytes)
+{
+    return (uint16_t)(bytes[0] | bytes[1] << 8);
+}
+
+static inline uint32_t u32_at(const uint8_t *bytes)
+{
+    return u16_at(bytes) | (uint32_t)u16_at(bytes + 2) << 16;
+}
 
 /* ---- the limit table: its entries, its default, its rules */
 enum {
@@ -79,6 +90,32 @@ static inline uint8_t broken_rule(const uint16_t table[LIMITS])
     if (g2 > table[CHANGE_DL])
         return 15;
     return 0;
+}
+
+/* ---- a file */
+/* 1, 2 or 3 for a file whose header or length is wrong, else 0. */
+static inline uint8_t refused_header(const uint8_t *file, size_t file_length)
+{
+    if (file_length < 12)
+        return MUNASIREL_TOO_SHORT;
+    uint16_t table_offset = u16_at(file);
+    uint16_t entries = u16_at(file + 2);
+    uint32_t record_offset = u32_at(file + 4);
+    uint32_t count = u32_at(file + 8);
+    if (table_offset != 12 || (entries != 0 && entries != LIMITS) || record_offset != 12u + 2u * entries ||
+        count > MUNASIREL_MOST_RECORDS)
+        return MUNASIREL_BAD_HEADER;
+    if (file_length != record_offset + 4 * (size_t)count)
+        return MUNASIREL_BAD_LENGTH;
+    return MUNASIREL_ACCEPTED;
+}
+
+/* The table of a file with a good header. */
+static inline void read_table(const uint8_t *file, uint16_t table[LIMITS])
+{
+    int entries = u16_at(file + 2);
+    for (int i = 0; i < LIMITS; i++)
+        table[i] = entries == 0 ? default_table[i] : u16_at(file + 12 + 2 * i);
 }
 
 /* ---- orders and phases */
@@ -274,11 +311,6 @@ static inline int is_listed(const munasirel_state *state)
 {
     return state->phase <= MUNASIREL_PHASE_ERROR && state->stage <= MUNASIREL_STAGE_WAITING &&
            state->gear_box <= MUNASIREL_BOX_IN_GEAR;
-}
-
-static inline uint16_t u16_at(const uint8_t *bytes)
-{
-    return (uint16_t)(bytes[0] | bytes[1] << 8);
 }
 
 /* The code and the amount of a record's four bytes, or 5 or 6. */
