@@ -1,7 +1,8 @@
 /* Works on a step file by the library and by the C version, to have its instructions counted or its time taken.
  *
  *     measure CALL TIMES FILE    makes a call so many times; the running judges advance over all the file's records, by one of them
- *                                a call, or by N as library-block-N or C-block-N
+ *                                a call, or by N as library-block-N or C-block-N; so do the lists that are extended, as
+ *                                library-extend-N or C-extend-N, from the list of no records on
  *     measure FILE               prints the nanoseconds a record of judging, the best and the median of the library, then of C
  *
  * The status is the number that refuses the file, or 0. */
@@ -17,6 +18,8 @@ static uint8_t file[MUNASIREL_LONGEST_FILE];
 static size_t file_length;
 static const uint8_t *records;
 static size_t block; /* the records of a block */
+static uint8_t list[MUNASIREL_LONGEST_LIST];
+static munasirel_state states[MUNASIREL_MOST_RECORDS + 1]; /* before each block of records */
 
 /* ---- the calls */
 static uint8_t library_judge(void)
@@ -100,6 +103,65 @@ static uint8_t c_block(void)
     return number;
 }
 
+static uint8_t library_list(void)
+{
+    return munasirel_list(file, file_length, list, sizeof list).number;
+}
+
+static uint8_t c_list(void)
+{
+    return reference_list(file, file_length, list, sizeof list).number;
+}
+
+/* The list of no records. */
+static munasirel_listed empty_list(void)
+{
+    static const uint8_t empty[] = {0, 0, 0, 0, 8, 0, 0, 0};
+    memcpy(list, empty, sizeof empty);
+    return (munasirel_listed){0, 0, 0, 0, sizeof empty};
+}
+
+static uint8_t library_extend(void)
+{
+    munasirel_limits table = munasirel_table(file, file_length);
+    munasirel_listed listed = empty_list();
+    uint32_t count = 0;
+    size_t length;
+    for (const uint8_t *from = records; listed.number == 0 && (length = block_length(from)) > 0; from += length) {
+        listed = munasirel_extend(list, sizeof list, listed.length, states[count / block], count, table, from, length);
+        count += (uint32_t)block;
+    }
+    return listed.number;
+}
+
+static uint8_t c_extend(void)
+{
+    munasirel_limits limits = munasirel_table(file, file_length);
+    uint16_t table[18];
+    munasirel_listed listed = empty_list();
+    uint32_t count = 0;
+    size_t length;
+    memcpy(table, &limits, sizeof table);
+    for (const uint8_t *from = records; listed.number == 0 && (length = block_length(from)) > 0; from += length) {
+        listed = reference_extend(list, sizeof list, listed.length, states[count / block], count, table, from, length);
+        count += (uint32_t)block;
+    }
+    return listed.number;
+}
+
+/* Makes the states for an extension ready, once. */
+static void make_states(void)
+{
+    munasirel_limits table = munasirel_table(file, file_length);
+    size_t length, accepted;
+    uint64_t excess;
+    munasirel_state *state = states;
+    for (const uint8_t *from = records; (length = block_length(from)) > 0; from += length, state++) {
+        state[1] = state[0];
+        munasirel_advance_block(state + 1, table, from, length, &accepted, &excess);
+    }
+}
+
 /* Behind a name that ends in '-' stands the number of records. */
 static const struct {
     const char *name;
@@ -109,6 +171,8 @@ static const struct {
     {"library-line", library_line},       {"C-line", c_line},
     {"library-advance", library_advance}, {"C-advance", c_advance},
     {"library-block-", library_block},    {"C-block-", c_block},
+    {"library-list", library_list},       {"C-list", c_list},
+    {"library-extend-", library_extend},  {"C-extend-", c_extend},
 };
 
 /* Whether a word names a call; the records of a block are taken from it. */
@@ -121,6 +185,8 @@ static int names(const char *word, const char *name)
         return 0;
     int count = atoi(word + length);
     block = count > 0 ? (size_t)count : 0;
+    if (block > 0)
+        make_states();
     return block > 0;
 }
 
