@@ -9,8 +9,8 @@
  *     64.61, 51.02   and no count where the buffer has room for any list
  *     63.41, 46.02   and ticks, codes 4 to 7 and takes apart
  *     49.31 to 54.69, 34.01 to 38.01   in one pass, entries as structs that become bytes at the end
- *     49.32 to 51.01, 34.01 to 40.01   in one pass, an entry laid whole where its shift ends, kind and route by the phase
- *     48.86 to 50.16, 34.01 to 35.01   in one pass as here, otherwise written
+ *     49.32 to 51.01, 34.01 to 40.01   in one pass, an entry laid whole where its shift ends, kind and route kept or by the phase
+ *     48.86 to 50.16, 34.01 to 35.02   in one pass as here, otherwise written
  *     47.90, 33.01   as here
  *
  * Without a list the judge of reference.c takes 49.03 and 35.02: such differences come from how the compiler shares out registers. */
