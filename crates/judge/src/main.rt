@@ -12,8 +12,5 @@ fn main() {
         return;
     }
     let length = input.length;
-    let mut text = [0u8; 128];
-    let laid = verdict::line(&file[..length], &mut text);
-    let end = laid.length;
-    io::write_all(STDOUT_FILENO, &text[..end]);
+    output::line(STDOUT_FILENO, &file[..length]);
 }
