@@ -1,5 +1,5 @@
-// A table for people: words and numbers padded to the width of their column, in a text that is written to standard output whenever it
-// is full.
+// A table for people: words and numbers padded to the width of their column, in a text that is written to standard output whenever
+// it is full.
 ghost use mathlib.Core.Path.{_≡_};
 ghost use Prim.Native.Nat.{_-_, _≤_, _<_};
 ghost use lib.ListN.{length};
