@@ -6,6 +6,7 @@ from typing import Callable, NamedTuple, Tuple
 import files
 import m9
 import rules
+import shifts
 
 LONGEST_FIELD = 66_000
 HEAD = struct.Struct("<B3I")
@@ -58,6 +59,9 @@ KINDS = {
     8: Kind("write", ("wish", "table", "amounts"), "bc", write),
     9: Kind("manual", ("table",), "b", manual, unit=files.RECORD.size),
     10: Kind("block", ("table", "state"), "b", files.block),
+    11: Kind("list", (), "bc", shifts.build),
+    12: Kind("fetch", ("number",), "b", shifts.fetch),
+    13: Kind("extend", ("table", "state", "held", "count"), "bc", shifts.extend),
 }
 NUMBERS = {kind.name: number for number, kind in KINDS.items()}
 
@@ -71,6 +75,8 @@ LAYOUTS = {
     "held": (struct.Struct("<Q"), int),
     "offset": (struct.Struct("<Q"), int),
     "wish": (struct.Struct("<B"), int),
+    "number": (struct.Struct("<Q"), int),
+    "count": (struct.Struct("<I"), int),
 }
 AMOUNT, _ = LAYOUTS["amount"]
 

@@ -307,9 +307,12 @@ class Corpus(unittest.TestCase):
             ("write", 1, DEFAULT, [3, 4], b"codes", b"buffer"),
             ("manual", DEFAULT, b"12345678"),
             ("block", DEFAULT, state, b"1234567"),
+            ("list", b"file", b"buffer"),
+            ("fetch", 11, b"list"),
+            ("extend", DEFAULT, state, 12, 13, b"1234567", b"buffer"),
         ]
         cases = [case_of(*case) for case in given]
-        self.assertEqual([len(case.a) for case in cases], [36, 61, 60, 0, 0, 0, 16, 45, 36, 56])
+        self.assertEqual([len(case.a) for case in cases], [36, 61, 60, 0, 0, 0, 16, 45, 36, 56, 0, 8, 68])
         self.assertEqual([parts_of(case) for case in cases], [list(case[1:]) for case in given])
         self.assertEqual(list(cases_in(b"".join(map(packed, cases)))), cases)
 
@@ -337,6 +340,22 @@ class Corpus(unittest.TestCase):
             (case_of("block", DEFAULT, START, b"\x01\0\0\0\x0c\0\x06\0"), "block 12 0 1 1 0 0 1 0 1 0 0 0"),
             (Case(10, bytes(55)), "bad"),
             (Case(10, bytes(56), b"", b"x"), "bad"),
+            (case_of("list", written(""), b"x" * 9), "list 0 0 0 0 8 000000000800000078"),
+            (case_of("list", written("1"), b"x" * 8), f"list 15 0 0 0 0 {'78' * 8}"),
+            (case_of("list", written("t9 1 t15"), b""), "list 12 0 2 10 0 -"),
+            (Case(11, b"x"), "bad"),
+            (case_of("fetch", 1, bytes.fromhex("0200000008000000" + "01" * 16 + "020003000401060708000000ffffffff")),
+             "fetch 0 2 3 4 1 6 8 4294967295"),
+            (case_of("fetch", 2, bytes.fromhex("0200000008000000" + "01" * 32)), "fetch 14 0 0 0 0 0 0 0"),
+            (Case(12, bytes(7)), "bad"),
+            (Case(12, bytes(9)), "bad"),
+            (Case(12, bytes(8), b"", b"x"), "bad"),
+            (case_of("extend", DEFAULT, START, 8, 0, b"\x01\0\0\0x", bytes.fromhex("0000000008000000" + "78" * 17)),
+             f"extend 0 0 0 0 24 0100000008000000{'00' * 4}01{'00' * 11}78"),
+            (case_of("extend", DEFAULT, START, 8, 7, b"\x0c\0\1\0\x02\0\0\0", bytes.fromhex("0000000008000000")),
+             "extend 8 0 8 0 0 0000000008000000"),
+            (Case(13, bytes(67)), "bad"),
+            (Case(13, bytes(69)), "bad"),
             (Case(1, bytes(35)), "bad"),
             (Case(8, bytes(38)), "bad"),
             (Case(5, b"", b"", b"x"), "bad"),
@@ -347,5 +366,5 @@ class Corpus(unittest.TestCase):
     def test_what_ends_a_run(self):
         good = case_of("admit", DEFAULT)
         too_long = bytes((4, 0, 0, 0, 0)) + (66_001).to_bytes(4, "little") + bytes(4 + 66_001)
-        for end in (b"\x01", packed(Case(11)), packed(Case(0)), packed(good)[:-1], too_long):
+        for end in (b"\x01", packed(Case(14)), packed(Case(0)), packed(good)[:-1], too_long):
             self.assertEqual(list(cases_in(packed(good) + end)), [good, None])
