@@ -40,9 +40,9 @@ def last_place(steps, code):
     return max(place for place, step in enumerate(steps) if step == (code, 0))
 
 
-def every_beginning(chance, table, steps, begin):
-    """The walk up to each place from the given one on."""
-    for end in range(begin, len(steps) + 1):
+def every_other_beginning(chance, table, steps, begin):
+    """The walk up to every other place from the given one on."""
+    for end in range(begin, len(steps) + 1, 2):
         yield case_of("judge", file_with(chance, table, steps[:end]))
 
 
@@ -54,17 +54,18 @@ def every_edge(chance, table, steps, begin):
 
 
 def every_shift(chance):
-    """Every shift: up to each place, at its slowest under a tight table, and with each limit just kept and passed."""
+    """Every shift: up to every other place, at its slowest under a tight table, each limit just kept and passed."""
     for request, shift in [(request, shift) for request, shifts in ROUNDS.items() for shift in shifts]:
         codes = lead(chance, request) + shift
 
         steps = timed(DEFAULT, codes, mixed(chance))
-        yield from every_beginning(chance, DEFAULT, steps, last_place(steps, request))
+        yield from every_other_beginning(chance, DEFAULT, steps, last_place(steps, request))
 
         tight = admitted_table(chance, tight=True)
         steps = timed(tight, codes, max)
         yield case_of("judge", file_with(chance, tight, steps))
-        yield from advances(tight, steps, last_place(steps, request))
+        *others, last = advances(tight, steps, last_place(steps, request))
+        yield from (*chance.sample(others, 7), last)
 
         table = good_table(chance)
         steps = timed(table, codes, min)
@@ -150,8 +151,9 @@ def damaged_files(chance):
     """Files with each damage, with tables at the edge of each rule, and with several things wrong at once."""
     for table in (None, admitted_table(chance)):
         file = file_of(table, packed_steps(any_walk(chance, DEFAULT) + [(TICK, 1)]))
-        for damaged in (file, *wrong_headers(chance, file), *wrong_lengths(chance, file)):
-            yield from all_three(chance, damaged)
+        yield from all_three(chance, file)
+        for damaged in (*wrong_headers(chance, file), *wrong_lengths(chance, file)):
+            yield from chance.sample(list(all_three(chance, damaged)), 2)
     for rule in range(1, 16):
         for table in edge_tables(chance, rule):
             yield from all_three(chance, file_with(chance, table, any_walk(chance, DEFAULT)))
@@ -171,12 +173,12 @@ def every_line(chance):
 
 
 def lines_along_walks(chance):
-    """Lines at every place of a walk for each request, and of a tick there that passes the limits, if there are any."""
+    """Lines at every place of a walk for each request, or of a tick there that passes the limits, if there are any."""
     for request, shifts in ROUNDS.items():
         steps = timed(DEFAULT, lead(chance, request) + chance.choice(shifts), max)
         for end in range(len(steps) + 1):
-            for more in ([], [(TICK, LONGEST_TICK)]):
-                yield line_case(chance, file_with(chance, DEFAULT, steps[:end], more), 0)
+            more = chance.choice(([], [(TICK, LONGEST_TICK)]))
+            yield line_case(chance, file_with(chance, DEFAULT, steps[:end], more), 0)
 
 
 def every_excess(chance):

@@ -30,6 +30,11 @@ def both(table, state, code, amount):
     yield case_of("advance", table, state, packed_steps([(code, amount)]))
 
 
+def either(chance, table, state, code, amount):
+    """A step as such or as the running judge's."""
+    return chance.choice(list(both(table, state, code, amount)))
+
+
 def any_time(chance):
     """A time near 0, near the last clock or anywhere."""
     near = chance.randint(0, 2_000)
@@ -144,7 +149,7 @@ def extreme_entries(chance):
 
 def rules_at_their_edge(chance):
     """Tables that break each rule first and by one, with their neighbours, and steps under the broken ones."""
-    for rule, _ in product(range(1, 16), range(5)):
+    for rule, _ in product(range(1, 16), range(3)):
         neighbours = edge_tables(chance, rule)
         for table in neighbours:
             yield case_of("admit", table)
@@ -215,7 +220,7 @@ def every_effect(chance):
         for phase, box in product(sorted(phases), (REQUESTS[code].box,) if code in REQUESTS else BOXES):
             table = good_table(chance)
             state, amount = accepted_step(chance, table, code, phase, box)
-            yield chance.choice(list(both(table, state, code, amount)))
+            yield either(chance, table, state, code, amount)
 
 
 def refused_step(chance, table, code, number, any_amount):
@@ -274,7 +279,7 @@ def ticks_beside_limits(chance):
         for past in (*PAST, *past_both(chance)) if stage in STAGE_LIMITS else ((0, 0), (0, 1)):
             table = good_table(chance)
             state, amount = aimed_tick(chance, table, phase, stage, *past)
-            yield from both(table, state, TICK, amount)
+            yield either(chance, table, state, TICK, amount)
 
 
 def ticks_beside_the_last_clock(chance):
@@ -282,7 +287,7 @@ def ticks_beside_the_last_clock(chance):
     for phase, time in product(range(ERROR + 1), (LAST_CLOCK - 1, 0)):
         state = free_state(chance, clock=LAST_CLOCK - 1, phase=phase, phase_time=time, stage_time=time)
         for amount in (1, 2, LONGEST_TICK):
-            yield from both(good_table(chance), state, TICK, amount)
+            yield either(chance, good_table(chance), state, TICK, amount)
 
 
 def engines_beside_limits(chance):
@@ -294,7 +299,7 @@ def engines_beside_limits(chance):
         for code, stage, limit in ((TAKE, GOOD, expiry), (ASK_CLUTCH, WAITING, earliest)):
             for clock in clocks_from(chance, past + limit):
                 state = free_state(chance, clock=clock, phase=phase, stage=stage, phase_time=clock - past - limit)
-                yield from both(table, state, code, 0)
+                yield either(chance, table, state, code, 0)
 
 
 def refusals_in_order(chance):
