@@ -3,8 +3,10 @@
 from collections import Counter
 from typing import Dict, NamedTuple, Sequence, Set
 
+import extend_coverage
+import list_coverage
 import m9
-from files import NO_ROOM, RECORD, fours, judged, line, read, record
+from files import NO_ROOM, RECORD, block, fours, judge, judged, line, read, record
 from places import HOW, PLACES, place_of
 from records import LISTED, UNLISTED
 from rules import (
@@ -39,7 +41,7 @@ SIZES = {"1": 1, "16 bits": 2**16 - 1, "32 bits": 2**32 - 1, "64 bits": 2**64 - 
 STAGE_LIMITS = {SENT: "channel, sent", WORKING: "device", GOOD: "channel, good"}
 LESS, MORE = "less", "more"
 # The functions that are given a state, and those that begin at the start.
-STATE_GIVEN, FROM_START = ("step", "advance", "block"), ("judge", "manual")
+STATE_GIVEN, FROM_START = ("step", "advance", "block", "extend"), ("judge", "manual", "list")
 # The refusals with an excess.
 OVER = range(TOO_EARLY, PAST_CLOCK + 1)
 # The outcomes of blocks, where the refused record of one stands, and the code that bytes left over begin with.
@@ -173,6 +175,10 @@ GRIDS = {
         "write": {0, *range(2, 7), 15},
         "manual": {0, *range(4, 14)} - NEVER_IN_A_FILE,
         "block": {0, *range(4, 14)},
+        "list": {*range(14), 15} - NEVER_IN_A_FILE,
+        "fetch": {*range(4), 14},
+        "extend": {*range(16)},
+        "extend, held": {15},
     }),
     "rules": Grid("rules that each function gave, 0 for an admitted table, and the nearest tables", range(16), {
         "admit": {0} | ALL_RULES,
@@ -183,6 +189,8 @@ GRIDS = {
         "write": ALL_RULES,
         "manual": ALL_RULES,
         "block": ALL_RULES,
+        "list": ALL_RULES,
+        "extend": ALL_RULES,
         "broken by one": ALL_RULES,
         "just kept": ALL_RULES,
     }),
@@ -249,6 +257,11 @@ GRIDS = {
         (ALONE, FIRST, BETWEEN, LAST),
         {number: {ALONE, FIRST} | ({BETWEEN, LAST} if number > NOT_ADMITTED else set()) for number in range(4, 14)},
     ),
+    "extend places": Grid(
+        "numbers of records that were appended, by the place of the refused record",
+        (ALONE, FIRST, BETWEEN, LAST),
+        {number: {ALONE, FIRST, BETWEEN, LAST} for number in range(NO_SUCH_CODE, 14)},
+    ),
     "left over": Grid(
         "blocks, by the bytes left over",
         (*OUTCOMES, LISTED_LEFT, UNLISTED_LEFT),
@@ -271,6 +284,12 @@ GRIDS = {
         (NO_RECORD, NOT_ADMITTED, NO_SUCH_CODE, WRONG_AMOUNT, NOT_ALLOWED),
         {field: {NO_RECORD, NOT_ADMITTED, NO_SUCH_CODE, WRONG_AMOUNT, NOT_ALLOWED} for field in LISTED_NUMBERS},
     ),
+    "list ends": Grid(
+        "phases and stages in which files ended that have a list",
+        STAGE_NAMES,
+        {phase: reachable(phase) for phase in range(ERROR + 1)},
+    ),
+    **{name: Grid(*grid) for name, grid in {**list_coverage.LIST_GRIDS, **extend_coverage.EXTEND_GRIDS}.items()},
 }
 
 
@@ -478,6 +497,13 @@ def place_in(index, count):
     return FIRST if index == 0 else LAST if index == count - 1 else BETWEEN
 
 
+def both_in_records(name, number, table, state, records):
+    """The mark of a refused record, the first of these, that passes both limits on the state before it."""
+    if number == PAST_STAGE_LIMIT:
+        code, amount, _ = record(records[:RECORD.size])
+        yield from both_marks(name, state.stage, excesses(table, state, code, amount))
+
+
 def block_marks(answer, table, state, records):
     """The marks of a block."""
     number, rule, accepted, excess, reached = answer
@@ -486,9 +512,7 @@ def block_marks(answer, table, state, records):
     count, left = divmod(len(records), RECORD.size)
     if number:
         yield "block places", number, place_in(accepted, count)
-    if number == PAST_STAGE_LIMIT:
-        code, amount, _ = record(records[RECORD.size * accepted:][:RECORD.size])
-        yield from both_marks("block", reached.stage, excesses(table, reached, code, amount))
+    yield from both_in_records("block", number, table, reached, records[RECORD.size * accepted:])
     outcome = NO_RECORD if not count else IS_REFUSED if number else ACCEPTED
     yield "left over", left, outcome + (BAD_TABLE if broken_rule(table) else "")
     if left and outcome == ACCEPTED:
@@ -496,6 +520,37 @@ def block_marks(answer, table, state, records):
     for field, listed in LISTED_NUMBERS.items():
         if getattr(state, field) >= listed:
             yield "unlisted", field, number if count else NO_RECORD
+
+
+def list_marks(answer, file, buffer):
+    """The marks of a list that is built."""
+    number, rule, index, excess, _, _ = answer
+    yield from answer_marks("list", number, rule)
+    yield from excess_marks("list", number, excess)
+    _, _, table, records = read(file)
+    *_, state = judge(file)
+    yield from both_in_records("list", number, table, state, records[RECORD.size * index:])
+    if number in (0, NO_ROOM):
+        yield "list ends", state.phase, STAGE_NAMES[state.stage]
+    yield from list_coverage.build_marks(file, buffer)
+
+
+def fetch_marks(answer, number, listed):
+    """The marks of a fetch."""
+    yield "numbers", "fetch", answer[0]
+    yield from list_coverage.fetch_marks(answer, number, listed)
+
+
+def extend_marks(answer, table, state, held, count, records, buffer):
+    """The marks of an extension."""
+    number, rule, index, excess, _, _ = answer
+    yield from answer_marks("extend, held" if held > len(buffer) else "extend", number, rule)
+    yield from excess_marks("extend", number, excess)
+    if number in range(NO_SUCH_CODE, PAST_CLOCK + 1):
+        yield "extend places", number, place_in(index - count, len(records) // RECORD.size)
+        reached = block(table, state, records)[-1]
+        yield from both_in_records("extend", number, table, reached, records[RECORD.size * (index - count):])
+    yield from extend_coverage.extend_marks(answer, table, state, held, count, records, buffer)
 
 
 MARKS = {
@@ -509,6 +564,9 @@ MARKS = {
     "write": write_marks,
     "manual": manual_marks,
     "block": block_marks,
+    "list": list_marks,
+    "fetch": fetch_marks,
+    "extend": extend_marks,
     "bad": lambda _: (),
 }
 

@@ -4,14 +4,21 @@ import random
 from itertools import islice
 
 import block_cases
+import extend_cases
+import fetch_cases
 import file_cases
 import join_cases
+import list_cases
 import manual_cases
+import refused_extend_cases
 import step_cases
 import write_cases
 from search import NotFound
 
-MAKERS = step_cases, file_cases, join_cases, write_cases, manual_cases, block_cases
+MAKERS = (
+    step_cases, file_cases, join_cases, write_cases, manual_cases, block_cases, list_cases, fetch_cases, extend_cases,
+    refused_extend_cases,
+)
 
 
 def other_lengths(case):
