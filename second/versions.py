@@ -9,14 +9,17 @@ from types import ModuleType
 from typing import NamedTuple
 
 from corpus import NUMBERS
+from wrong_extends import WRONG_EXTENDS
 from wrong_files import WRONG_FILES
 from wrong_m9 import WRONG_M9
 from wrong_rules import WRONG_RULES
+from wrong_shifts import WRONG_SHIFTS
 
 HERE = Path(__file__).resolve().parent
 
-MANUAL = NUMBERS["manual"]
-MANUAL_FILES = {file for _, file, *_ in WRONG_M9}
+# The files whose wrong versions show in cases of these kinds alone.
+SHOWN_IN = {file: {NUMBERS["manual"]} for _, file, *_ in WRONG_M9}
+SHOWN_IN["shifts.py"] = {NUMBERS[name] for name in ("list", "fetch", "extend")}
 
 
 class Wrong(NamedTuple):
@@ -31,6 +34,7 @@ class Wrong(NamedTuple):
 WRONG_VERSIONS = [
     *(Wrong(what, "rules.py", old, new) for what, old, new in WRONG_RULES),
     *(Wrong(what, "files.py", old, new) for what, old, new in WRONG_FILES),
+    *(Wrong(what, "shifts.py", old, new) for what, old, new in WRONG_SHIFTS + WRONG_EXTENDS),
     Wrong("the wish for none crossed", "corpus.py", "table if wish else None", "None if wish else table"),
     *(Wrong(*wrong) for wrong in WRONG_M9),
 ]
@@ -66,10 +70,10 @@ def loaded(name, wrong=None):
 
 
 def concerned(wrong, answered):
-    """The cases that the wrong version can show in, each with its line: of its machine, those of manual alone."""
-    if wrong.file not in MANUAL_FILES:
+    """The cases that the wrong version can show in, each with its line."""
+    if wrong.file not in SHOWN_IN:
         return answered
-    return [(case, line) for case, line in answered if case and case.kind == MANUAL]
+    return [(case, line) for case, line in answered if case and case.kind in SHOWN_IN[wrong.file]]
 
 
 def cases_needed(worked, answered):
