@@ -5,7 +5,7 @@ from list_coverage import (
     CUT, END_NAMES, EXACT, GONE_ON, IN_DONE, IN_ERROR, KEPT, LONGER, NEW, ONE_SHORT, SHIFTS, SHORTER, SIZES, STAYED,
     WENT_ON, WRAPS, damage_marks, foreign_marks, open_marks, room, shift_marks, size_of, tick_marks,
 )
-from rules import ALLOWED, ASK_CLUTCH, AT_REST, DONE, ERROR, PHASES, REQUESTS, admitted_step, broken_rule
+from rules import ALLOWED, ASK_CLUTCH, AT_REST, DONE, ENGINE_WAITS, ERROR, PHASES, REQUESTS, admitted_step, broken_rule
 from shifts import ENTRY, FIRST_ENTRY, HEAD, OPEN, age_at, along, entry_at, fits, last_entry, shifts_along
 
 # Why an extension is refused, in order, with the number; 0 stands for the record's own.
@@ -25,8 +25,8 @@ EMPTY, JUST_BELOW, BELOW = "empty list", "last record just below the count", "la
 BEFORE, AT, AFTER = "clock before the request", "clock at the request", "clock after the request"
 # What comes of the records, and of a shift that goes on.
 NO_RECORD, ACCEPTED, IS_REFUSED, TOO_MANY = "no record", "accepted", "refused", "too many"
-LEFT_OPEN, ASKED, THEN_NEW = "left open", "clutch asked for", "then new shifts"
-BECAME = NO_RECORD, LEFT_OPEN, *END_NAMES[1:], ASKED, THEN_NEW
+LEFT_OPEN, WAITED, ASKED, THEN_NEW = "left open", "engine only waits", "clutch asked for", "then new shifts"
+BECAME = NO_RECORD, LEFT_OPEN, *END_NAMES[1:], WAITED, ASKED, THEN_NEW
 IN_ALL, ONE_TOO_MANY = "16,372 in all", "16,373 in all"
 
 
@@ -57,7 +57,8 @@ EXTEND_GRIDS = {
     "fits": (
         "states and lists that fit",
         (IN_A_SHIFT, *OUTSIDE),
-        {**{row: {*OUTSIDE} for row in (EMPTY, JUST_BELOW, BELOW)}, **{row: {IN_A_SHIFT} for row in (BEFORE, AT, AFTER)}},
+        {**{row: {*OUTSIDE} for row in (EMPTY, JUST_BELOW, BELOW)},
+         **{row: {IN_A_SHIFT} for row in (BEFORE, AT, AFTER)}},
     ),
     "cuts": (
         "phases of files that were extended, and the first new code",
@@ -173,8 +174,9 @@ def gone_on_marks(last, entry, codes, new):
     if last.kind in REQUESTS and last.route < 2:
         row = f"{last.kind}, route {last.route}"
         yield "gone on", row, BECAME[1 + entry.end] if codes else NO_RECORD
-        if ASK_CLUTCH in codes[:entry.last - last.last]:
-            yield "gone on", row, ASKED
+        own = codes[:entry.last - last.last]
+        if ASK_CLUTCH in own or ENGINE_WAITS in own:
+            yield "gone on", row, ASKED if ASK_CLUTCH in own else WAITED
         if new:
             yield "gone on", row, THEN_NEW
 

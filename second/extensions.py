@@ -75,7 +75,7 @@ def fitting(chance, state, count, **named):
 
 
 def on_state(chance, table, state, records, count=None, **named):
-    """Records on any state, and a list of one to three entries that fits it; the last one's named fields are as named."""
+    """Records on any state, and a list that fits it; the named fields of its last entry are as named."""
     count = chance.choice((3, chance.randint(4, 99), chance.randint(300, 16_000))) if count is None else count
     before = [any_shift(chance, count) for _ in range(chance.randint(0, min(2, count - 1)))]
     return Given(table, state, count, entries_of([*before, fitting(chance, state, count, **named)]), records)

@@ -12,7 +12,7 @@ from tables import good_table
 from walks import mixed, timed
 
 # Heads that say another offset, and lists that say another count.
-OFFSETS = 0, 1, 7, 9, 12, 16, FIRST_ENTRY + 2**8, FIRST_ENTRY + 2**16, FIRST_ENTRY + 2**31, FIRST_ENTRY * 2**24, 2**32 - 1
+OFFSETS = 0, 1, 7, 9, 12, 16, *(FIRST_ENTRY + 2**bit for bit in (8, 16, 31)), FIRST_ENTRY * 2**24, 2**32 - 1
 OTHER_COUNTS = -1, 1, 2**8, 2**16, 2**28, 2**31
 FIELD_EXTREMES = {"first": 2**16 - 1, "last": 2**16 - 1, "kind": 2**8 - 1, "route": 2**8 - 1, "end": 2**8 - 1,
                   "request_time": 2**32 - 1, "age": 2**32 - 1}

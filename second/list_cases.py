@@ -5,12 +5,9 @@ from itertools import product
 from buffers import NO_BUFFER, buffer_for
 from corpus import case_of
 from file_cases import any_file, faults, file_with, wrong_headers, wrong_lengths
-from files import MOST_RECORDS, RECORD, file_of, judge
+from files import MOST_RECORDS, file_of, judge
 from records import packed_steps
-from rules import (
-    DEFAULT, DELIVER, DEVICE_GOOD, FROM_NEUTRAL, GEAR_TO_GEAR, LONGEST_TICK, NOT_ADMITTED, PAST_PHASE_LIMIT,
-    PAST_STAGE_LIMIT, REQUESTS, TICK, TO_NEUTRAL, TOO_EARLY,
-)
+from rules import DEFAULT, FROM_NEUTRAL, GEAR_TO_GEAR, LONGEST_TICK, PAST_STAGE_LIMIT, REQUESTS, START, TICK, TO_NEUTRAL
 from shifts import ENTRY, HEAD, build
 from tables import admitted_table, broken_table, edge_tables, good_table
 from walks import (
@@ -38,7 +35,7 @@ def refused_cases(chance, file, begun=0):
 
 def shifts_in_a_row(chance, count):
     """The codes of so many shifts, one behind the other from the start, up to rest."""
-    codes, box = (), 0
+    codes, box = (), START.box
     for _ in range(count):
         shift = chance.choice(SHIFTS[chance.choice(requests_at(box))])
         codes, box = codes + to_rest(shift), box_after(shift)
@@ -117,7 +114,7 @@ def every_excess(chance):
         yield from refused_cases(chance, file_with(chance, DEFAULT, steps, over), count + 1)
     for steps in walks_over(chance):
         yield list_case(chance, file_with(chance, DEFAULT, steps), 24)
-    for way in ((), (DELIVER,), (DELIVER, DEVICE_GOOD)):
+    for way in WAYS_OVER[PAST_STAGE_LIMIT]:
         steps = timed(DEFAULT, (FROM_NEUTRAL, *way), mixed(chance))
         yield list_case(chance, file_with(chance, DEFAULT, steps, [(TICK, LONGEST_TICK)]), 24)
 
@@ -139,15 +136,18 @@ def every_damage(chance):
         yield from refused_cases(chance, damaged)
 
 
+def there_and_back():
+    """The shortest shifts that are finished, from neutral and back, without ticks."""
+    return [(code, 0) for request in (FROM_NEUTRAL, TO_NEUTRAL) for code in min(FINISHED[request], key=len)]
+
+
 def most_shifts(chance):
-    """The most shifts that a file can have, the last of them a request that is the last record."""
-    ways = {request: min(FINISHED[request], key=len) for request in REQUESTS}
-    there_and_back = [(code, 0) for code in ways[FROM_NEUTRAL] + ways[TO_NEUTRAL]]
-    steps = there_and_back * (MOST_RECORDS // len(there_and_back))
+    """The most shifts that a file can have, the last of them a request that is the last record, and a few hundred."""
+    steps = there_and_back() * (MOST_RECORDS // len(there_and_back()))
     steps += [(TICK, 1)] * (MOST_RECORDS - len(steps) - 1) + [(FROM_NEUTRAL, 0)]
     for spare in (0, -1):
         yield list_case(chance, file_of(None, packed_steps(steps)), spare)
-    some = there_and_back * 150 + timed(DEFAULT, FINISHED[FROM_NEUTRAL][0], min) + [(GEAR_TO_GEAR, 0)]
+    some = there_and_back() * 150 + timed(DEFAULT, FINISHED[FROM_NEUTRAL][0], min) + [(GEAR_TO_GEAR, 0)]
     yield list_case(chance, file_of(None, packed_steps(some)), 5)
 
 

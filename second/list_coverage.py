@@ -19,7 +19,7 @@ NO_ROOM, ROOM = "no room", "room"
 REQUEST_LAST, LATER, CUT = "the request last", "later", "cut behind the request"
 OPEN_AT = (*(f"{how}, {last}" for how in (BUILT, NEW) for last in (REQUEST_LAST, LATER)), CUT)
 # Where a tick belongs to no shift, and in what it is.
-BEFORE_ALL, BEHIND, IN_DONE, IN_ERROR = LOOSE = "at rest, no shift before", "at rest behind a shift", "in done", "in error"
+BEFORE_ALL, BEHIND, IN_DONE, IN_ERROR = LOOSE = "at rest before all", "at rest behind a shift", "in done", "in error"
 TICKED = "list", "list, last", "extend", "extend, last"
 # What can be wrong with the length of a list, its offset, and its length beside its count.
 LENGTHS = tuple(f"{length} bytes" for length in range(HEAD.size))
@@ -51,7 +51,7 @@ def refused_columns(number):
 LIST_GRIDS = {
     "shifts": ("shifts of lists, by kind and route: how they end", ALL_ENDS, {row: {*ALL_ENDS} for row in SHIFTS}),
     "list room": ("lists that were built, by their shifts: the buffer", ROOMS, {size: {*ROOMS} for size in SIZES}),
-    "open shifts": ("shifts that stay open, by kind: the last record", OPEN_AT, {kind: {*OPEN_AT} for kind in REQUESTS}),
+    "open shifts": ("shifts that stay open, by kind: where", OPEN_AT, {kind: {*OPEN_AT} for kind in REQUESTS}),
     "loose ticks": ("ticks that belong to no shift", TICKED, {place: {*TICKED} for place in LOOSE}),
     "refused lists": (
         "numbers of files that get no list: the shifts begun before, and the room for them",

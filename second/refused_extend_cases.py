@@ -2,7 +2,7 @@
 
 from itertools import product
 
-from block_cases import left_over, refused_behind_ticks, refused_record, some_records
+from block_cases import left_over, refused_behind_ticks, refused_record, some_records, unreadable_records
 from coverage import STAGE_LIMITS, later_numbers, step_numbers
 from extend_coverage import EXTEND_GRIDS
 from extensions import Given, cut_walk, extend_case, on_state
@@ -12,11 +12,11 @@ from list_cases import shifts_in_a_row
 from list_coverage import OFF
 from records import LISTED, UNLISTED, any_record, packed_pieces, packed_steps
 from rules import (
-    AT_REST, DEFAULT, DONE, ERROR, GOOD, LAST_CLOCK, NOT_ADMITTED, PHASES, REQUESTS, SENT, START, TICK, State,
+    AT_REST, DEFAULT, DONE, ERROR, FROM_NEUTRAL, GOOD, NOT_ADMITTED, PHASES, REQUESTS, SENT, START, TICK, State,
 )
-from shifts import ENTRY, FIRST_ENTRY, HEAD, Shift, entries_of
+from shifts import ENTRY, HEAD, Shift, entries_of
 from step_cases import aimed_steps, aimed_tick, free_state, past_both, unlisted
-from tables import any_table, broken_table, edge_tables, good_table
+from tables import any_table, edge_tables, good_table
 from walks import mixed, states, timed
 
 
@@ -65,15 +65,14 @@ def not_fitting(chance, given):
 
 
 def refused(chance, given):
-    """A record behind the others that is refused."""
-    return given._replace(records=given.records + chance.choice((bytes(4), b"\x0e\0\0\0", b"\x0c\0\0\0", b"\x04\1\0\0")))
+    """A record behind the others that does not read."""
+    return given._replace(records=given.records + chance.choice(unreadable_records(chance, chance.choice(LISTED))))
 
 
 def without_room(chance, given):
     """A buffer that has the list and no room for what is appended."""
-    least = max(HEAD.size, given.held or 0) if given.held is not None else len(given.listed())
-    most = (given.held if given.held is not None else len(given.listed())) + ENTRY.size - 1
-    return given._replace(room=chance.randint(least, most))
+    held = len(given.listed()) if given.held is None else given.held
+    return given._replace(room=chance.randint(max(HEAD.size, held), held + ENTRY.size - 1))
 
 
 def beyond_buffer(chance, given):
@@ -170,7 +169,7 @@ def every_table(chance):
         state = free_state(chance, phase=AT_REST, box=0, clock=chance.randint(0, 2**31))
         for records in (b"", some_records(chance)):
             yield extend_case(chance, on_state(chance, broken, state, records))
-        yield extend_case(chance, on_state(chance, kept, state, packed_steps([(1, 0), (TICK, 1)])))
+        yield extend_case(chance, on_state(chance, kept, state, packed_steps([(FROM_NEUTRAL, 0), (TICK, 1)])))
 
 
 def every_refusal(chance):
@@ -197,13 +196,13 @@ def every_excess(chance):
 
 def every_count(chance):
     """Counts with which there are just too many records, and with which their sum would wrap."""
-    for count, new in ((16_372, 1), (16_373, 0), (16_371, 2), (2**16, 1), (2**32 - 1, 1), (2**32 - 1, 0), (2**32 - 3, 5)):
-        for state in (State(5, 0, AT_REST), State(5, 0, 3, 5, SENT, 5, 2)):
-            given = on_state(chance, DEFAULT, state, packed_steps([(TICK, 1)] * new), min(count, 2**16))
-            yield extend_case(chance, given._replace(count=count))
-    for count in (16_371, 16_370, 300, 5, 0):
-        yield extend_case(chance, Given(DEFAULT, START, count, b"", bytes(4)))
-        yield extend_case(chance, Given(DEFAULT, START, count, b"", packed_steps([(1, 0)]) * 2))
+    most, largest = MOST_RECORDS, 2**32 - 1
+    counts = (most, 1), (most + 1, 0), (most - 1, 2), (2**16, 1), (largest, 1), (largest, 0), (largest - 2, 5)
+    for (count, new), state in product(counts, (State(clock=5), State(5, 0, 3, 5, SENT, 5, 2))):
+        given = on_state(chance, DEFAULT, state, packed_steps([(TICK, 1)] * new), min(count, 2**16))
+        yield extend_case(chance, given._replace(count=count))
+    for count, records in product((most - 1, most - 2, 300, 5, 0), (bytes(4), packed_steps([(FROM_NEUTRAL, 0)]) * 2)):
+        yield extend_case(chance, Given(DEFAULT, START, count, b"", records))
 
 
 def demanded(chance):

@@ -18,9 +18,11 @@ from generator import cases
 from records import LISTED, packed_pieces, packed_steps
 from rules import DEFAULT, LAST_CLOCK, REQUESTS, START, State, broken_rule, slacks, step
 from search import MOST_TRIES, NotFound, first_found
+from shifts import Shift, list_of
 from step_cases import aimed_steps
 from tables import admitted_table, edge_tables, good_table
 from test_files import WOULD_NOT_CLOSE, written
+from test_shifts import listed
 from versions import Wrong, loaded
 from walks import ROUNDS, SHIFTS, SLOW, lead, leads, mixed, steps_over, timed, walks_over, walks_through_errors
 
@@ -175,6 +177,64 @@ class TheCoverage(unittest.TestCase):
         ):
             grids = {grid for grid, _, _ in marks(worked(case_of(*given)))}
             self.assertTrue(grids.isdisjoint({"both limits", "digits"}))
+
+    def test_lists(self):
+        shift, head = listed(Shift(0, 0, 1)), "list damage"
+        for given, cells in (
+            (("list", written(f"{WOULD_NOT_CLOSE} t1 13 t1 3"), bytes(40)), {
+                ("numbers", "list", 0), ("shifts", "1, route 1", "built error"), ("shifts", "3, route 0", "built open"),
+                ("open shifts", 3, "built, the request last"), ("loose ticks", "in error", "list"),
+                ("loose ticks", "at rest behind a shift", "list"), ("list room", 2, "exact"), ("list ends", 17, "sent"),
+            }),
+            (("list", written("1 t5"), bytes(23)), {("list room", 1, "one short"), ("open shifts", 1, "built, later")}),
+            (("list", written("t5"), b""), {
+                ("loose ticks", "at rest before all", "list, last"), ("numbers", "list", 15)}),
+            (("list", written("1 1"), bytes(23)), {("refused lists", 7, "1 begun"), ("refused lists", 7, "no room")}),
+            (("list", written("1 t15"), bytes(24)), {
+                ("excesses", "list 12", "16 bits"), ("refused lists", 12, "room")}),
+            (("fetch", 0, shift), {
+                ("fetches", 1, "first"), ("fetches", 1, "last"), ("shifts", "1, route 0", "fetched open")}),
+            (("fetch", 2**28, shift), {("fetches", 1, "2^28"), ("numbers", "fetch", 14)}),
+            (("fetch", 1, shift), {("fetches", 1, "at the count")}),
+            (("fetch", 0, list_of(b"\xff" * 16)), {("foreign entries", field, "fetched") for field in (
+                "kind", "route", "end", "eighth byte")}),
+            (("fetch", 0, bytes(3)), {(head, "fetch", "3 bytes")}),
+            (("fetch", 0, bytes(8)), {(head, "fetch", "offset less")}),
+            (("fetch", 0, bytes.fromhex("0000001008000000")), {(head, "fetch", "wraps at 32 bits")}),
+            (("fetch", 0, shift[:-1]), {(head, "fetch", "a byte less")}),
+        ):
+            self.assert_marked(cells, *given)
+
+    def test_extensions(self):
+        empty, waiting, open_shift = listed(), State(151, 0, 1, 0, 5), listed(Shift(0, 3, 1, age=151))
+        ask, request = written("9")[12:], written("1")[12:]
+        for given, cells in (
+            ((START, 8, 0, request, empty + bytes(16)), {
+                ("cuts", 0, 1), ("shifts", "1, route 0", "new open"), ("open shifts", 1, "new, the request last"),
+                ("fits", "empty list", "at rest"), ("extended room", 1, "exact"), ("counts", "0", "accepted"),
+                ("extended left over", 0, "accepted"),
+            }),
+            ((waiting, 24, 4, ask, open_shift), {
+                ("gone on", "1, route 0", "clutch asked for"), ("gone on", "1, route 0", "left open"),
+                ("shifts", "1, route 1", "gone on open"), ("cuts", 1, 9),
+                ("fits", "clock after the request", "in a shift"),
+            }),
+            ((waiting, 24, 4, b"12", open_shift), {
+                ("gone on", "1, route 0", "no record"), ("extended left over", 2, "no record")}),
+            ((waiting, 24, 4, request, open_shift), {
+                ("reasons", "record", "alone"), ("extend places", 7, "alone"), ("counts", "8 bits", "refused")}),
+            ((waiting, 24, 5, ask, open_shift), {
+                ("reasons", "fit", "alone"), ("misfits", "last record one less", "in a shift")}),
+            ((waiting, 24, 5, request, open_shift), {("reasons", "fit", "record")}),
+            ((START, 24, 4, ask, open_shift), {("misfits", "end 0", "at rest"), ("reasons", "fit", "record")}),
+            ((START, 8, 0, request, empty), {("reasons", "room", "alone"), ("extended room", 1, "shorter")}),
+            ((START, 9, 0, b"", empty), {("numbers", "extend, held", 15), ("reasons", "held", "length")}),
+            ((START, 5, 16_373, b"", empty), {
+                ("list damage", "extend", "5 bytes"), ("reasons", "short", "records"), ("reasons", "short", "length")}),
+            ((START, 8, 16_373, b"", empty), {
+                ("reasons", "records", "alone"), ("counts", "16,373 in all", "too many")}),
+        ):
+            self.assert_marked(cells, "extend", DEFAULT, *given)
 
     def test_what_did_not_come_up_is_missing(self):
         coverage = Coverage()

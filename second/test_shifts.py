@@ -128,7 +128,8 @@ class Fetching(unittest.TestCase):
         self.assertEqual(fetch(0, listed()), (14, Shift()))
 
     def test_entries_as_they_stand(self):
-        self.assertEqual(fetch(0, list_of(b"\xff" * 16)), (0, Shift(65_535, 65_535, 255, 255, 255, 2**32 - 1, 2**32 - 1)))
+        largest = Shift(65_535, 65_535, 255, 255, 255, 2**32 - 1, 2**32 - 1)
+        self.assertEqual(fetch(0, list_of(b"\xff" * 16)), (0, largest))
         self.assertEqual(fetch(1, list_of(bytes(16) + bytes(range(1, 17)))),
                          (0, Shift(0x201, 0x403, 5, 6, 7, 0xc0b0a09, 0x100f0e0d)))
 
@@ -136,8 +137,9 @@ class Fetching(unittest.TestCase):
         good = listed(K1_SHIFT)
         for given, number in (
             (b"", 1), (good[:7], 1), (bytes(8), 2), (bytes(7), 1), (good[:8], 3), (good[:-1], 3), (good + b"\0", 3),
-            (good[:4] + b"\x09" + good[5:], 2), (good[:4] + b"\x09" + good[5:-1], 2), (good[:7] + b"\x01" + good[8:], 2),
-            (bytes.fromhex("0000001008000000"), 3), (bytes.fromhex("ffffffff08000000"), 3), (bytes.fromhex("0800000000000000"), 2),
+            (good[:4] + b"\x09" + good[5:], 2), (good[:4] + b"\x09" + good[5:-1], 2),
+            (good[:7] + b"\x01" + good[8:], 2), (bytes.fromhex("0000001008000000"), 3),
+            (bytes.fromhex("ffffffff08000000"), 3), (bytes.fromhex("0800000000000000"), 2),
         ):
             for place in (0, 1, 2**28):
                 self.assertEqual(fetch(place, given), (number, Shift()))
@@ -226,9 +228,11 @@ class RefusedExtensions(unittest.TestCase):
     def test_one_reason_each(self):
         for given, answer in (
             ({"held": 25}, 15), ({"held": 2**64 - 1}, 15), ({"room": 23}, 15), ({"held": 7}, 1), ({"held": 0}, 1),
-            ({"head": bytes(8)}, 2), ({"head": bytes.fromhex("0100000008000001")}, 2), ({"held": 8}, 3), ({"held": 23}, 3),
+            ({"head": bytes(8)}, 2), ({"head": bytes.fromhex("0100000008000001")}, 2),
+            ({"held": 8}, 3), ({"held": 23}, 3),
             ({"head": bytes.fromhex("0200000008000000")}, 3), ({"head": bytes.fromhex("0100001008000000")}, 3),
-            ({"count": 16_371}, 2), ({"count": 2**32 - 1}, 2), ({"count": 0}, 2), ({"count": 3}, 14), ({"count": 5}, 14),
+            ({"count": 16_371}, 2), ({"count": 2**32 - 1}, 2), ({"count": 0}, 2), ({"count": 3}, 14),
+            ({"count": 5}, 14),
             ({"shifts": []}, 14), ({"state": START}, 14), ({"shifts": [self.ENTRY._replace(end=1)]}, 14),
             ({"shifts": [self.ENTRY._replace(request_time=5)]}, 14), ({"shifts": [self.ENTRY._replace(age=4)]}, 14),
             ({"shifts": [self.ENTRY._replace(last=2)]}, 14), ({"shifts": [self.ENTRY._replace(first=3)]}, 0),
@@ -242,23 +246,26 @@ class RefusedExtensions(unittest.TestCase):
 
     def test_records_that_are_refused(self):
         for text, number, index, excess in (
-            ("t101", 12, 4, 1), ("t100 t7", 12, 5, 7), ("5 5", 7, 5, 0), ("7 t151", 11, 5, 1), ("7 t9 9", 9, 6, 137), ("1", 7, 4, 0),
+            ("t101", 12, 4, 1), ("t100 t7", 12, 5, 7), ("5 5", 7, 5, 0), ("7 t151", 11, 5, 1), ("7 t9 9", 9, 6, 137),
+            ("1", 7, 4, 0),
         ):
             self.assertEqual(self.numbers(new=records(text)), (number, 0, index, excess), text)
         for new, number in ((bytes(4), 5), (b"\x0e\0\0\0", 5), (b"\x05\0\1\0", 6)):
             self.assertEqual(self.numbers(new=records("t1") + new), (number, 0, 5, 0))
         self.assertEqual(self.numbers(state=START, shifts=[], count=0, new=records("2")), (8, 0, 0, 0))
-        late = State(clock=160, phase=1, stage=3, stage_time=160, request_time=155)
-        self.assertEqual(self.numbers(state=late, shifts=[self.ENTRY._replace(request_time=155)], new=records("8")), (10, 0, 4, 10))
+        late, shifts = State(clock=160, phase=1, stage=3, request_time=155), [self.ENTRY._replace(request_time=155)]
+        self.assertEqual(self.numbers(state=late, shifts=shifts, new=records("8")), (10, 0, 4, 10))
         last = State(clock=2**32 - 2)
         self.assertEqual(self.numbers(state=last, shifts=[], new=records("t1 t3")), (13, 0, 5, 3))
 
     def test_the_order(self):
-        head, many, table, fit, new = {"head": bytes(8)}, {"count": 16_372}, {"table": self.BROKEN}, {"state": START}, {"new": bytes(4)}
+        head, many, table = {"head": bytes(8)}, {"count": 16_372}, {"table": self.BROKEN}
+        fit, new = {"state": START}, {"new": bytes(4)}
         room = {"new": records("5 8 4 5 8 11 2"), "room": 24}
         for given, answer in (
-            ({"held": 7, "room": 6}, (15, 0, 0, 0)), ({"held": 7, **head}, (1, 0, 0, 0)), ({"held": 8, **head}, (2, 0, 0, 0)),
-            ({"held": 8, **many}, (3, 0, 0, 0)), ({**many, **table}, (2, 0, 0, 0)), ({"count": 0, **table}, (2, 0, 0, 0)),
+            ({"held": 7, "room": 6}, (15, 0, 0, 0)), ({"held": 7, **head}, (1, 0, 0, 0)),
+            ({"held": 8, **head}, (2, 0, 0, 0)), ({"held": 8, **many}, (3, 0, 0, 0)),
+            ({**many, **table}, (2, 0, 0, 0)), ({"count": 0, **table}, (2, 0, 0, 0)),
             ({**table, **fit}, (4, 14, 0, 0)), ({**fit, **new}, (14, 0, 0, 0)), (room, (15, 0, 0, 0)),
             ({**room, "new": room["new"] + bytes(4)}, (5, 0, 11, 0)), ({**room, **fit}, (14, 0, 0, 0)),
         ):
@@ -280,7 +287,8 @@ class RefusedExtensions(unittest.TestCase):
         before, entry = b"\xff" * 16, bytes.fromhex("0900 0400 00 07 00 ee 07000000 00000000")
         for text, after in (
             ("", "0900 0400 00 07 00 00 07000000 00000000"), ("t1", "0900 0500 00 07 00 00 07000000 00000000"),
-            ("t4", "0900 0500 00 07 00 00 07000000 02000000"), ("t3 8 t9 11", "0900 0600 00 07 01 00 07000000 01000000"),
+            ("t4", "0900 0500 00 07 00 00 07000000 02000000"),
+            ("t3 8 t9 11", "0900 0600 00 07 01 00 07000000 01000000"),
         ):
             self.assertEqual(extend(DEFAULT, state, 40, 5, records(text), list_of(before + entry)),
                              (0, 0, 0, 0, 40, list_of(before + bytes.fromhex(after))))

@@ -27,9 +27,16 @@ def without(check):
     return ALL, ALL.replace(check, "")
 
 
-def before(later, *checks):
-    """Extending with a check before these that come before it."""
-    return ALL, ALL.replace(checks[0], (JUDGED.replace("number:", "number > 4:") if later == JUDGED else later) + checks[0])
+def before(later, check):
+    """Extending with a check before one that comes before it."""
+    later = JUDGED.replace("number:", "number > 4:") if later == JUDGED else later
+    return ALL, ALL.replace(check, later + check)
+
+
+def not_3_for(condition, name):
+    """Extending with another refusal before 3 where this holds."""
+    refused = f"if number == WRONG_LENGTH and {condition}:\n        return {name}, 0, 0, 0, 0, buffer\n    if number:"
+    return DAMAGED, DAMAGED.replace("if number:", refused)
 
 
 def judged_with(answer):
@@ -53,10 +60,8 @@ REFUSALS = [
     ("2 before 1 for a held list", *before(OTHER_OFFSET, DAMAGED)),
     ("the records' 2 before 15 for a held list", *before(RECORDS, HELD)),
     ("the records' 2 before 1", *before(RECORDS, DAMAGED)),
-    ("the records' 2 before 3", DAMAGED, DAMAGED.replace("if number", f"if number == WRONG_LENGTH and {RECORDS[7:RECORDS.index(':')]}"
-     ":\n        return WRONG_HEADER, 0, 0, 0, 0, buffer\n    if number")),
-    ("the shifts' 2 before 3", DAMAGED, DAMAGED.replace("if number", "if number == WRONG_LENGTH and count_of(listed) > count"
-     ":\n        return WRONG_HEADER, 0, 0, 0, 0, buffer\n    if number")),
+    ("the records' 2 before 3", *not_3_for("count + len(new) // RECORD.size > MOST_RECORDS", "WRONG_HEADER")),
+    ("the shifts' 2 before 3", *not_3_for("count_of(listed) > count", "WRONG_HEADER")),
     ("4 before 15 for a held list", *before(TABLE, HELD)),
     ("4 before 1 to 3 of a list", *before(TABLE, DAMAGED)),
     ("4 before the records' 2", *before(TABLE, RECORDS)),
@@ -64,9 +69,8 @@ REFUSALS = [
     ("14 before 4", *before(FIT, TABLE)),
     ("14 before the shifts' 2", *before(FIT, SHIFTS)),
     ("14 before the records' 2", *before(FIT, RECORDS)),
-    ("14 before 3 of a list", DAMAGED, DAMAGED.replace(
-        "if number", "if number == 3 and len(listed) > 23 and not fits(state, count, last_entry(listed)):\n"
-        "        return NOT_IN_LIST, 0, 0, 0, 0, buffer\n    if number")),
+    ("14 before 3 of a list",
+     *not_3_for("len(listed) > 23 and not fits(state, count, last_entry(listed))", "NOT_IN_LIST")),
     ("a record's own before 14", *before(JUDGED, FIT)),
     ("a record's own before 4", ALL, ALL.replace(TABLE, "    from rules import DEFAULT\n" + JUDGED.replace(
         "block(table", "block(DEFAULT if broken_rule(table) else table") + TABLE)),
@@ -81,14 +85,15 @@ REFUSALS = [
     ("15 before the records' 2", *before(NO_ROOM, RECORDS)),
     ("15 before 1 to 3 of a list", *before(NO_ROOM, DAMAGED)),
     ("any list is extended that has a header", ALL, ALL.replace(DAMAGED, UNDER_8)),
-    ("any offset is extended", DAMAGED, DAMAGED.replace("damage(listed)", "damage(listed[:4] + b'\\x08\\0\\0\\0' + listed[8:])")),
+    ("any offset is extended", DAMAGED,
+     DAMAGED.replace("damage(listed)", "damage(listed[:4] + b'\\x08\\0\\0\\0' + listed[8:])")),
     ("any length is extended", DAMAGED, DAMAGED.replace("if number:", "if number and number != WRONG_LENGTH:")),
     ("3 for 1 of a held list", DAMAGED, DAMAGED.replace("return number", "return 3 if number == 1 else number")),
     ("2 for 3 of a held list", DAMAGED, DAMAGED.replace("return number", "return 2 if number == 3 else number")),
     ("3 for 2 of a held list", DAMAGED, DAMAGED.replace("return number", "return 3 if number == 2 else number")),
     ("the list's damage over the whole buffer", DAMAGED, DAMAGED.replace("damage(listed)", "damage(buffer)")),
     ("a held length that wraps at 32 bits", DAMAGED, DAMAGED.replace(
-        "if number:", "if number == 3 and len(listed) == (8 + 16 * count_of(listed)) % 2**32:\n        number = 0\n    if number:")),
+        "if number:", "if number and (number < 3 or held != (8 + 16 * count_of(listed)) % 2**32):")),
     ("any number of records is extended", *without(RECORDS)),
     ("16,372 records are too many to extend", RECORDS, RECORDS.replace(">", ">=")),
     ("16,373 records are not too many to extend", RECORDS, RECORDS.replace(" > MOST", " - 1 > MOST")),
@@ -96,7 +101,8 @@ REFUSALS = [
     ("the sum of records wraps at 32 bits", RECORDS, RECORDS.replace(
         "count + len(new) // RECORD.size", "(count + len(new) // RECORD.size) % 2**32")),
     ("records before of 16 bits", RECORDS, RECORDS.replace("count +", "count % 2**16 +")),
-    ("bytes left over count as a record", RECORDS, RECORDS.replace("len(new) // RECORD.size", "-(-len(records) // RECORD.size)")),
+    ("bytes left over count as a record", RECORDS,
+     RECORDS.replace("len(new) // RECORD.size", "-(-len(records) // RECORD.size)")),
     ("too many records give 3", RECORDS, RECORDS.replace("WRONG_HEADER", "WRONG_LENGTH")),
     ("more shifts than records", *without(SHIFTS)),
     ("as many shifts as records are refused", SHIFTS, SHIFTS.replace(">", ">=")),
@@ -121,11 +127,15 @@ REFUSALS = [
     ("index and excess crossed of an extension", *judged_with("number, 0, excess, count + accepted, 0, buffer")),
     ("a refused extension keeps its length", *judged_with("number, 0, count + accepted, excess, held, buffer")),
     ("a refused extension keeps what was accepted", *judged_with(
-        "number, 0, count + accepted, excess, 0, laid(extended(table, state, count, new[:4 * accepted], listed), buffer)[2]")),
+        "number, 0, count + accepted, excess, 0, "
+        "laid(extended(table, state, count, new[:4 * accepted], listed), buffer)[2]")),
     ("appended records from the start state", JUDGED, JUDGED.replace("state, new", "START, new")),
-    ("the first new record is not judged", JUDGED, JUDGED.replace("state, new)", "along(table, state, new[:4])[1][-1], new[4:])")),
-    ("15 with the index of the longer file", *laid_with("number, 0, (count + len(new) // 4) * (number > 0), 0, length, after")),
-    ("the longer file's count for the index", *laid_with("number, 0, (count + len(new) // 4) * (number == 0), 0, length, after")),
+    ("the first new record is not judged", JUDGED,
+     JUDGED.replace("state, new)", "along(table, state, new[:4])[1][-1], new[4:])")),
+    ("15 with the index of the longer file",
+     *laid_with("number, 0, (count + len(new) // 4) * (number > 0), 0, length, after")),
+    ("the longer file's count for the index",
+     *laid_with("number, 0, (count + len(new) // 4) * (number == 0), 0, length, after")),
     ("14 for 15 of a longer list", *laid_with("number and 14, 0, 0, 0, length, after")),
     ("15 with the length that is held", *laid_with("number, 0, 0, 0, length or held, after")),
     ("15 with the open entry gone on", LAID, LAID.replace("    return", (
@@ -146,8 +156,10 @@ REFUSALS = [
 # What is left over behind the last whole record.
 
 LEFT_OVER = [
-    ("bytes left over are refused", HELD, "    if len(records) % RECORD.size:\n        return WRONG_LENGTH, 0, 0, 0, 0, buffer\n" + HELD),
-    ("bytes left over are refused with 5", JUDGED, "    if len(records) % RECORD.size:\n        return 5, 0, count, 0, 0, buffer\n" + JUDGED),
+    ("bytes left over are refused", HELD,
+     "    if len(records) % RECORD.size:\n        return WRONG_LENGTH, 0, 0, 0, 0, buffer\n" + HELD),
+    ("bytes left over are refused with 5", JUDGED,
+     "    if len(records) % RECORD.size:\n        return 5, 0, count, 0, 0, buffer\n" + JUDGED),
     ("bytes left over are a record", LISTED, LISTED.replace(WHOLE, "records + bytes(-len(records) % RECORD.size)")),
     ("the last record is left out where none is left over", LISTED, LISTED.replace(
         WHOLE, "records[:max(0, len(records) - 1) // RECORD.size * RECORD.size]")),
@@ -183,27 +195,34 @@ FITS = [
     ("an age wraps", AGE_AT, "(clock - request_time) % 2**32"),
     ("an age of a clock before the request is the other way", AGE_AT, "abs(clock - request_time)"),
     ("a clock before the request does not fit", AGE, AGE[:-1] + " and state.clock >= state.request_time)"),
-    ("no shift need be in the list", IN_A_SHIFT, "    if last is None:\n        return not state.phase in PHASES or count == 0\n"
-     + IN_A_SHIFT),
+    ("no shift need be in the list", IN_A_SHIFT,
+     f"    if last is None:\n        return state.phase not in PHASES or count == 0\n{IN_A_SHIFT}"),
     ("an empty list fits no state", OUTSIDE, OUTSIDE.replace("last is None or", "last is not None and")),
-    ("an empty list fits a state at rest alone", OUTSIDE, OUTSIDE.replace("last is None or", "last is None and state.phase == 0 or last and")),
+    ("an empty list fits a state at rest alone", OUTSIDE,
+     OUTSIDE.replace("last is None or", "last is None and state.phase == 0 or last and")),
     ("an open shift fits outside", OUTSIDE, "last is None or last.last < count"),
-    ("an open shift fits at rest", OUTSIDE, OUTSIDE.replace("last.end != OPEN", "(last.end != OPEN or state.phase == 0)")),
-    ("an open shift fits in done and error", OUTSIDE, OUTSIDE.replace("last.end != OPEN", "(last.end != OPEN or state.phase in ENDS)")),
+    ("an open shift fits at rest", OUTSIDE,
+     OUTSIDE.replace("last.end != OPEN", "(last.end != OPEN or state.phase == 0)")),
+    ("an open shift fits in done and error", OUTSIDE,
+     OUTSIDE.replace("last.end != OPEN", "(last.end != OPEN or state.phase in ENDS)")),
     ("an end above 2 does not fit", OUTSIDE, OUTSIDE.replace("last.end != OPEN", "last.end in (1, 2)")),
-    ("only the end of done fits in done", OUTSIDE, OUTSIDE.replace("last.end != OPEN", "last.end != OPEN and not (state.phase == DONE and last.end == 2)")),
-    ("only the end of an error fits in error", OUTSIDE, OUTSIDE.replace("last.end != OPEN", "last.end != OPEN and not (state.phase == ERROR and last.end == 1)")),
+    ("only the end of done fits in done", OUTSIDE,
+     OUTSIDE.replace("last.end != OPEN", "last.end != OPEN and not (state.phase == DONE and last.end == 2)")),
+    ("only the end of an error fits in error", OUTSIDE,
+     OUTSIDE.replace("last.end != OPEN", "last.end != OPEN and not (state.phase == ERROR and last.end == 1)")),
     ("any last record fits outside", OUTSIDE, "last is None or last.end != OPEN"),
     ("a last record at the count fits outside", OUTSIDE, OUTSIDE.replace("< count", "<= count")),
     ("a last record before the count does not fit outside", OUTSIDE, OUTSIDE.replace("< count", "< count - 1")),
     ("the last record just before the count alone fits in done and error", OUTSIDE, OUTSIDE.replace(
         "< count", "< count and (state.phase not in ENDS or last.last == count - 1)")),
-    ("only phases up to 20 are in a shift", IN_A_SHIFT, IN_A_SHIFT.replace("in PHASES", "in PHASES and state.phase < 21")),
+    ("only phases up to 20 are in a shift", IN_A_SHIFT,
+     IN_A_SHIFT.replace("in PHASES", "in PHASES and state.phase < 21")),
     ("phase 1 is not in a shift", IN_A_SHIFT, IN_A_SHIFT.replace("in PHASES", "in PHASES and state.phase > 1")),
     ("done is in a shift", IN_A_SHIFT, IN_A_SHIFT.replace("in PHASES", "in (*PHASES, DONE)")),
     ("error is in a shift", IN_A_SHIFT, IN_A_SHIFT.replace("in PHASES", "in (*PHASES, ERROR)")),
     ("phases above 23 are in a shift", IN_A_SHIFT, IN_A_SHIFT.replace("in PHASES", "not in (0, DONE, ERROR)")),
-    ("a state that is not listed does not fit", FIT, FIT.replace("if not", "if state.phase > 23 or state.box > 1 or state.stage > 5 or not")),
+    ("a state that is not listed does not fit", FIT,
+     FIT.replace("if not", "if state.phase > 23 or state.box > 1 or state.stage > 5 or not")),
 ]
 
 # The longer list: the open shift that goes on, the new ones, and what stays as it is.
@@ -219,8 +238,14 @@ BEFORE = "    entries = listed[HEAD.size:]\n"
 
 def gone_on_with(**wrong):
     """An entry that goes on with other values in these fields."""
-    fields = {"last": "before + last", "route": "route", "end": "end", "age": "age_at(clock, entry.request_time)", **wrong}
+    fields = {"last": "before + last", "route": "route", "end": "end", "age": "age_at(clock, entry.request_time)"}
+    fields.update(wrong)
     return GONE_ON, f"entry._replace({', '.join(f'{name}={value}' for name, value in fields.items())})"
+
+
+def eighth_byte(kept):
+    """An entry that goes on with this as its eighth byte."""
+    return f"eighth = {kept}\n        {ENTRIES}\n        entries = entries[:-9] + eighth + entries[-8:]"
 
 
 LONGER_LISTS = [
@@ -233,7 +258,8 @@ LONGER_LISTS = [
     ("a shift that goes on keeps its age", *gone_on_with(age="entry.age")),
     ("the age of a shift that goes on since the cut", *gone_on_with(age="age_at(clock, states[0].clock)")),
     ("the age of a shift that goes on is its clock", *gone_on_with(age="clock")),
-    ("the age of a shift that goes on with the new ticks twice", *gone_on_with(age="2 * clock - states[0].clock - entry.request_time")),
+    ("the age of a shift that goes on with the new ticks twice",
+     *gone_on_with(age="2 * clock - states[0].clock - entry.request_time")),
     ("the age of a shift that goes on of 16 bits", *gone_on_with(age="age_at(clock, entry.request_time) % 2**16")),
     ("the age of a shift that goes on wraps", *gone_on_with(age="(clock - entry.request_time) % 2**32")),
     ("the new ticks are added to the age", *gone_on_with(age="entry.age + clock - states[0].clock")),
@@ -248,24 +274,27 @@ LONGER_LISTS = [
     ("an ask is added to the route", ROUTE, "route = entry.route + asked"),
     ("an ask is or-ed to the route", ROUTE, "route = entry.route | asked"),
     ("an ask behind a route stays as it was", ROUTE, "route = entry.route or int(asked)"),
-    ("route 1 on going on where the engine waits", ROUTE, "route = 1 if asked or 7 in codes[:last + 1] else entry.route"),
+    ("route 1 on going on where the engine waits", ROUTE,
+     "route = 1 if asked or 7 in codes[:last + 1] else entry.route"),
     ("route 1 on going on where a new shift asks", ROUTE, "route = 1 if ASK_CLUTCH in codes else entry.route"),
-    ("a shift that goes on without a record is done", STAYS, "    if not codes:\n        return entry._replace(end=1)\n"),
-    ("a shift that goes on without a record loses its age", STAYS, "    if not codes:\n        return entry._replace(age=0)\n"),
+    ("a shift that goes on without a record is done", STAYS,
+     "    if not codes:\n        return entry._replace(end=1)\n"),
+    ("a shift that goes on without a record loses its age", STAYS,
+     "    if not codes:\n        return entry._replace(age=0)\n"),
     ("an open shift does not go on", GOES_ON, GOES_ON.replace("in PHASES", "in PHASES and not codes")),
     ("no shift goes on", GOES_ON, GOES_ON.replace("state.phase in PHASES", "False")),
     ("a shift goes on that has ended", GOES_ON, GOES_ON.replace("state.phase in PHASES", "len(listed) > 8 and codes")),
     ("a shift that goes on gets an entry more", ENTRIES, "entries = entries + entries_of([going_on])"),
     ("the first entry goes on", ENTRIES, "entries = entries_of([going_on]) + entries[ENTRY.size:]"),
-    ("the eighth byte stays in a shift that goes on", ENTRIES,
-     f"eighth = entries[-9:-8]\n        {ENTRIES}\n        entries = entries[:-9] + eighth + entries[-8:]"),
-    ("the eighth byte stays without a record", ENTRIES,
-     f"eighth = b'\\0' if codes else entries[-9:-8]\n        {ENTRIES}\n        entries = entries[:-9] + eighth + entries[-8:]"),
+    ("the eighth byte stays in a shift that goes on", ENTRIES, eighth_byte("entries[-9:-8]")),
+    ("the eighth byte stays without a record", ENTRIES, eighth_byte("b'\\0' if codes else entries[-9:-8]")),
     ("eighth bytes before become 0", BEFORE,
      "    entries = b''.join(ENTRY.pack(*found) for found in ENTRY.iter_unpack(listed[HEAD.size:]))\n"),
-    ("routes before become at most 1", BEFORE, BEFORE + "    entries = b''.join(entries[at:at + 5] + bytes((min(1, entries[at + 5]),))"
+    ("routes before become at most 1", BEFORE,
+     BEFORE + "    entries = b''.join(entries[at:at + 5] + bytes((min(1, entries[at + 5]),))"
      " + entries[at + 6:at + 16] for at in range(0, len(entries), 16))\n"),
-    ("earlier entries are lost", LONGER, "list_of(entries[-ENTRY.size:] + entries_of(shifts_along(codes, states, count)))"),
+    ("earlier entries are lost", LONGER,
+     "list_of(entries[-ENTRY.size:] + entries_of(shifts_along(codes, states, count)))"),
     ("all entries before are lost", LONGER, "list_of(entries_of(shifts_along(codes, states, count)))"),
     ("new entries before the old", LONGER, "list_of(entries_of(shifts_along(codes, states, count)) + entries)"),
     ("no new entry", LONGER, "list_of(entries)"),

@@ -3,7 +3,8 @@
 # The list: its header, its entries and their layout.
 
 HEAD_LAYOUT, ENTRY_LAYOUT = 'struct.Struct("<II")', 'struct.Struct("<HHBBBxII")'
-HEADED, PACKED = "HEAD.pack(len(entries) // ENTRY.size, FIRST_ENTRY) + entries", "ENTRY.pack(*shift) for shift in shifts"
+HEADED = "HEAD.pack(len(entries) // ENTRY.size, FIRST_ENTRY) + entries"
+PACKED = "ENTRY.pack(*shift) for shift in shifts"
 FIELDS = "first", "last", "kind", "route", "end", "request_time", "age"
 
 
@@ -29,7 +30,8 @@ LAYOUT = [
      "ENTRY.pack(*shift)[:7] + bytes((shift.end,)) + ENTRY.pack(*shift)[8:] for shift in shifts"),
     ("count and offset crossed in the header", HEADED, "HEAD.pack(FIRST_ENTRY, len(entries) // ENTRY.size) + entries"),
     ("offset 12 in the header", HEADED, "HEAD.pack(len(entries) // ENTRY.size, 12) + entries"),
-    ("offset 0 for an empty list", HEADED, "HEAD.pack(len(entries) // ENTRY.size, FIRST_ENTRY if entries else 0) + entries"),
+    ("offset 0 for an empty list", HEADED,
+     "HEAD.pack(len(entries) // ENTRY.size, FIRST_ENTRY if entries else 0) + entries"),
     ("the header counts bytes", HEADED, "HEAD.pack(len(entries), FIRST_ENTRY) + entries"),
     ("the header counts one more", HEADED, "HEAD.pack(len(entries) // ENTRY.size + 1, FIRST_ENTRY) + entries"),
     ("the header's count of 8 bits", HEADED, "HEAD.pack(len(entries) // ENTRY.size % 2**8, FIRST_ENTRY) + entries"),
@@ -48,18 +50,20 @@ LAYOUT = [
 # What a shift is: its records, kind, route, end and times.
 
 LAST = "next((at for at in range(place, len(codes)) if states[at + 1].phase in ENDS), len(codes) - 1)"
-END, REST = "ENDS.get(states[last + 1].phase, OPEN)", "len(codes) - 1)\n"
+END = "ENDS.get(states[last + 1].phase, OPEN)"
 ASKED, CLOCK = "ASK_CLUTCH in codes[place:last + 1]", "states[last + 1].clock\n"
 ENDING = "ENDS = {DONE: 1, ERROR: 2}"
 REQUESTED, ASKED_AT = "if code in REQUESTS)", "asked_at = states[first].clock"
 NEW = "yield Shift(before + first, before + last, codes[first], int(asked), end, asked_at, age_at(clock, asked_at))"
-STAYS = "next((at for at in range(last + 1, len(states)) if states[at].phase != states[last + 1].phase), len(states)) - 1"
+STAYS = ("next((at for at in range(last + 1, len(states)) if states[at].phase != states[last + 1].phase), len(states))"
+         " - 1")
 
 
 def new_with(**wrong):
     """New shifts with other values in these fields."""
-    fields = ("before + first", "before + last", "codes[first]", "int(asked)", "end", "asked_at", "age_at(clock, asked_at)")
-    return NEW, f"yield Shift({', '.join(wrong.get(name, field) for name, field in zip(FIELDS, fields))})"
+    fields = dict(zip(FIELDS, ("before + first", "before + last", "codes[first]", "int(asked)", "end", "asked_at",
+                               "age_at(clock, asked_at)")), **wrong)
+    return NEW, f"yield Shift({', '.join(fields.values())})"
 
 
 def last_until(condition):
@@ -72,7 +76,8 @@ SHIFTS = [
     ("a shift ends at the finish or the reset", *last_until("at > place and states[at + 1].phase == 0")),
     ("ticks in done and error belong to the shift", f"{LAST}\n",
      f"{LAST}\n    last = {STAYS} - 1 if states[last + 1].phase in ENDS else last\n"),
-    ("ticks in done are counted into the age", CLOCK, f"states[{STAYS} if states[last + 1].phase == DONE else last + 1].clock\n"),
+    ("ticks in done are counted into the age", CLOCK,
+     f"states[{STAYS} if states[last + 1].phase == DONE else last + 1].clock\n"),
     ("ticks in error are counted into the age", CLOCK,
      f"states[{STAYS} if states[last + 1].phase == ERROR else last + 1].clock\n"),
     ("a shift ends before the record that enters 22 or 23", *new_with(last="before + last - (end > 0)")),
@@ -168,7 +173,8 @@ BUILD = [
     ("an entry for a refused request", REFUSED, REFUSED.replace("if number:", "if number not in (0, 7, 8):")),
     ("the list of a refused file behind its number", REFUSED, REFUSED.replace(
         ", 0, buffer", ", 0, list_of(b'') + buffer[8:] if len(buffer) > 7 else buffer")),
-    ("15 before the file's own", REFUSED, "    if len(buffer) < HEAD.size:\n        return NO_ROOM, 0, 0, 0, 0, buffer\n" + REFUSED),
+    ("15 before the file's own", REFUSED,
+     "    if len(buffer) < HEAD.size:\n        return NO_ROOM, 0, 0, 0, 0, buffer\n" + REFUSED),
     ("15 before a record's own", REFUSED,
      REFUSED.replace("        return", "        if number > 4 and len(buffer) < HEAD.size:\n            "
                      "return NO_ROOM, 0, 0, 0, 0, buffer\n        return")),
@@ -189,9 +195,11 @@ BUILD = [
     ("an exact fit is refused to a list without a shift", *built_with(
         "*((NO_ROOM, 0, 0, 0, 0, buffer) if 8 == length == len(buffer) else (number, 0, 0, 0, length, after))", "")),
     ("14 for 15 of a list", *built_with("number and 14, 0, 0, 0, length")),
-    ("15 with the header laid", *built_with("number, 0, 0, 0, length", "list_of(b'') + after[8:] if number and len(after) > 7 else after")),
+    ("15 with the header laid",
+     *built_with("number, 0, 0, 0, length", "list_of(b'') + after[8:] if number and len(after) > 7 else after")),
     ("15 with the list's length", *built_with("number, 0, 0, 0, length or len(buffer) + 1")),
-    ("bytes behind the list are made 0", *built_with("number, 0, 0, 0, length", "after[:length] + bytes(len(after) - length) if length else after")),
+    ("bytes behind the list are made 0",
+     *built_with("number, 0, 0, 0, length", "after[:length] + bytes(len(after) - length) if length else after")),
 ]
 
 # Fetching, in the order 1, 2, 3, 14.
@@ -199,7 +207,6 @@ BUILD = [
 SHORT, HEADER = "if len(listed) < HEAD.size:", "count, offset = HEAD.unpack_from(listed)\n    if offset != FIRST_ENTRY:"
 LENGTH = "len(listed) == FIRST_ENTRY + ENTRY.size * count"
 PAST, FOUND = "number >= count_of(listed)", "entry_at(listed, FIRST_ENTRY + ENTRY.size * number)"
-AT = "Shift(*ENTRY.unpack_from(listed, place))"
 FETCHED = f"    return refusal, Shift() if refusal else {FOUND}\n"
 GIVEN_14 = f"{PAST}:\n        refusal = NOT_IN_LIST\n{FETCHED}"
 
@@ -207,6 +214,11 @@ GIVEN_14 = f"{PAST}:\n        refusal = NOT_IN_LIST\n{FETCHED}"
 def found_at(place):
     """An entry at this byte, and zeros behind the list."""
     return FOUND, f"entry_at(listed + bytes(99_999), {place})"
+
+
+def number_of(bits):
+    """A fetch by so many bits of the number."""
+    return "    refusal = damage(listed)\n", f"    refusal, number = damage(listed), number % 2**{bits}\n"
 
 
 def refused_for(condition):
@@ -220,7 +232,9 @@ FETCH = [
     ("1 for a list without room for an entry", SHORT, "if len(listed) < HEAD.size + ENTRY.size:"),
     ("1 below 12 bytes for lists too", SHORT, "if len(listed) < 12:"),
     ("3 for a list under 8 bytes", SHORT + "\n        return TOO_SHORT", SHORT + "\n        return WRONG_LENGTH"),
-    ("2 for a list of no bytes", SHORT + "\n        return TOO_SHORT", SHORT + "\n        return TOO_SHORT if listed else WRONG_HEADER"),
+    ("2 for a list of no bytes", SHORT + "\n        return TOO_SHORT",
+     SHORT + "\n        return TOO_SHORT if listed else WRONG_HEADER"),
+    ("count and offset crossed in a list that is read", HEADER, HEADER.replace("count, offset", "offset, count")),
     ("2 and 3 crossed of a list", f"{HEADER}\n        return WRONG_HEADER\n    return 0 if {LENGTH} else WRONG_LENGTH",
      f"{HEADER}\n        return WRONG_LENGTH\n    return 0 if {LENGTH} else WRONG_HEADER"),
     ("3 before 2 of a list", HEADER, HEADER.replace("if offset", f"if {LENGTH} and offset")),
@@ -241,21 +255,24 @@ FETCH = [
     ("a list's count of 8 bits", LENGTH, f"{LENGTH} % 2**8"),
     ("a list's count of 16 bits", LENGTH, f"{LENGTH} % 2**16"),
     ("3 for an empty list", LENGTH, f"count and {LENGTH}"),
-    ("14 past the count only", GIVEN_14, GIVEN_14.replace(">=", ">").replace("entry_at(listed,", "entry_at(listed + bytes(16),")),
-    ("14 at the count only", GIVEN_14, GIVEN_14.replace(">=", "==").replace("entry_at(listed,", "entry_at(listed[:8] + bytes(16),")
-     .replace("ENTRY.size * number", "ENTRY.size * 0 if number >= count_of(listed) else FIRST_ENTRY")),
+    ("14 past the count only", GIVEN_14,
+     GIVEN_14.replace(">=", ">").replace("entry_at(listed,", "entry_at(listed + bytes(16),")),
+    ("14 at the count only", GIVEN_14, GIVEN_14.replace(">=", "==").replace(
+        FOUND, f"Shift() if number > count_of(listed) else {FOUND}")),
     ("14 at the last shift too", PAST, "number + 1 >= count_of(listed)"),
     ("14 for shift 0", PAST, f"(not number or {PAST})"),
-    ("shifts are fetched from 1", GIVEN_14, GIVEN_14.replace("number >=", "not 0 < number <=").replace("* number", "* (number - 1)")),
+    ("shifts are fetched from 1", GIVEN_14,
+     GIVEN_14.replace("number >=", "not 0 < number <=").replace("* number", "* (number - 1)")),
     ("15 for 14 of a fetch", f"{PAST}:\n        refusal = NOT_IN_LIST", f"{PAST}:\n        refusal = NO_ROOM"),
     ("14 before 3", "    if not refusal and number", "    if refusal in (0, WRONG_LENGTH) and number"),
     ("14 before 2", "    if not refusal and number", "    if refusal in (0, WRONG_HEADER) and number"),
-    ("a number of 8 bits is fetched", "    refusal = damage(listed)\n", "    refusal, number = damage(listed), number % 2**8\n"),
-    ("a number of 16 bits is fetched", "    refusal = damage(listed)\n", "    refusal, number = damage(listed), number % 2**16\n"),
-    ("a number of 32 bits is fetched", "    refusal = damage(listed)\n", "    refusal, number = damage(listed), number % 2**32\n"),
-    ("an entry's place wraps at 32 bits", "    refusal = damage(listed)\n", "    refusal, number = damage(listed), number % 2**28\n"),
-    ("an entry's place wraps at 64 bits", "    refusal = damage(listed)\n", "    refusal, number = damage(listed), number % 2**60\n"),
-    ("an entry's place of 16 bits", FOUND, FOUND.replace("FIRST_ENTRY", "FIRST_ENTRY + 0").replace("* number)", "* number % 2**16)")),
+    ("a number of 8 bits is fetched", *number_of(8)),
+    ("a number of 16 bits is fetched", *number_of(16)),
+    ("a number of 32 bits is fetched", *number_of(32)),
+    ("an entry's place wraps at 32 bits", *number_of(28)),
+    ("an entry's place wraps at 64 bits", *number_of(60)),
+    ("an entry's place of 16 bits", FOUND,
+     FOUND.replace("FIRST_ENTRY", "FIRST_ENTRY + 0").replace("* number)", "* number % 2**16)")),
     ("the first shift whatever the number", *found_at("FIRST_ENTRY")),
     ("the last shift whatever the number", *found_at("len(listed) - ENTRY.size")),
     ("the next shift", *found_at("FIRST_ENTRY + ENTRY.size * (number + 1)")),
