@@ -11,8 +11,8 @@ from rules import DEFAULT, FROM_NEUTRAL, GEAR_TO_GEAR, LONGEST_TICK, PAST_STAGE_
 from shifts import ENTRY, HEAD, build
 from tables import admitted_table, broken_table, edge_tables, good_table
 from walks import (
-    FINISHED, ROUNDS, SHIFTS, WAYS_OVER, any_walk, box_after, lead, mixed, requests_at, states, steps_over, timed,
-    to_rest, walks_over,
+    FINISHED, ROUNDS, SHIFTS, SLOW, WAYS_OVER, any_walk, box_after, lead, mixed, requests_at, states, steps_over,
+    timed, to_rest, walks_over,
 )
 
 # The rooms that a buffer has beside the list.
@@ -95,7 +95,7 @@ def every_refused_record(chance):
         table = good_table(chance)
         steps = timed(table, shifts_in_a_row(chance, count), mixed(chance))
         cut, by_number = chance.randint(0, len(steps)), {}
-        for place in {cut, len(steps)}:
+        for place in sorted({cut, len(steps)}):
             for fault in faults(chance, table, states(table, steps)[place]):
                 file = file_with(chance, table, steps[:place], fault, steps[place:] if chance.random() < 0.5 else [])
                 begun = sum(code in REQUESTS for code, _ in steps[:place])
@@ -113,7 +113,7 @@ def every_excess(chance):
         over = steps_over(DEFAULT, states(DEFAULT, steps)[-1], number, excess)
         yield from refused_cases(chance, file_with(chance, DEFAULT, steps, over), count + 1)
     for steps in walks_over(chance):
-        yield list_case(chance, file_with(chance, DEFAULT, steps), 24)
+        yield list_case(chance, file_with(chance, SLOW, steps), 24)
     for way in WAYS_OVER[PAST_STAGE_LIMIT]:
         steps = timed(DEFAULT, (FROM_NEUTRAL, *way), mixed(chance))
         yield list_case(chance, file_with(chance, DEFAULT, steps, [(TICK, LONGEST_TICK)]), 24)

@@ -22,7 +22,7 @@ OPEN_AT = (*(f"{how}, {last}" for how in (BUILT, NEW) for last in (REQUEST_LAST,
 BEFORE_ALL, BEHIND, IN_DONE, IN_ERROR = LOOSE = "at rest before all", "at rest behind a shift", "in done", "in error"
 TICKED = "list", "list, last", "extend", "extend, last"
 # What can be wrong with the length of a list, its offset, and its length beside its count.
-LENGTHS = tuple(f"{length} bytes" for length in range(HEAD.size))
+LENGTHS = tuple(f"{length} byte{'s' * (length != 1)}" for length in range(HEAD.size))
 OFFSETS = "offset less", "offset more", "offset 8 in its low byte"
 OFF = {-1: "a byte less", 1: "a byte more", -ENTRY.size: "an entry less", ENTRY.size: "an entry more"}
 WRAPS, OTHER = "wraps at 32 bits", "other"
