@@ -62,7 +62,7 @@ module _ (f before after : List ℕ) (r : Listed) (a : r ≡ builtOf f (length b
       (λ l. let z = rw (p, l) at e in absurd (omega arith)))
       (λ p. let z = rw p at e in absurd (eqb-false (verdictOf f .number) 0 p z))
 
-  stands : r .number ≡ 0 → ListStands f (r .length) before after
+  pub stands : r .number ≡ 0 → ListStands f (r .length) before after
   stands z =
       let h = judged-and-fits (ap (λ (q : Listed). q .number) (sym a) ∙ z) in
       let k = built f before (h .0) (h .1) in
@@ -89,7 +89,7 @@ module _ (f : List ℕ) (z : verdictOf f .number ≡ 0) (i : ℕ) where
   one-there : i < n → fetchOf (listOf (shiftsOf f)) i ≡ record { number = 0; shift = getD (shiftsOf f) i noShift }
   one-there h = fetched (shiftsOf f) few i h (entries-of-a-file-fit f z i h)
 
-  fetched-so : FetchedFrom (shiftsOf f) i (fetchOf (listOf (shiftsOf f)) i)
+  pub fetched-so : FetchedFrom (shiftsOf f) i (fetchOf (listOf (shiftsOf f)) i)
   fetched-so = record {
     below = one-there;
     past = past-count (shiftsOf f) few i;

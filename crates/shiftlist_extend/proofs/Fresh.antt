@@ -16,6 +16,7 @@ use denote.Ref.{now}
 use denote.Triple.Entry.{Args}
 use denote.Triple.Clauses.{AtExit}
 use Rattle.checks.proofs.Tests.{case}
+use Rattle.limits.specs.declared.Table.{Table}
 use Rattle.numbers.specs.Bytes.{bytesOf}
 use Rattle.phases.specs.Phases.{unfinished}
 use Rattle.shift.specs.declared.State.{State}
@@ -142,33 +143,34 @@ module _ (f g bytes tail : List ℕ) (a : Appended f g bytes) where
       (λ e. ap (λ b. cond b old-list l) e ∙ ap (λ b. cond b new-list l) (sym e))
       ∙ ap (λ (q : Listed). cond (eqb (q .number) 0) new-list l) same-answer
 
--- ---- of calls of `extend` and of `build`, whatever their contracts allow: on equal buffers that begin with the list of f
+-- ---- of equal buffers that begin with the list of f
+-- what `extend` is given: the list of f at the buffer's start, its state, its record count, its table, and the records that follow; and
+-- `build` the longer file and a buffer of the same bytes
+pub record SameCall (f tail l : List ℕ) (held : ℕ) (end : State) (count : ℕ) (t : Table) (bytes g l′ : List ℕ) : Type 0 where
+  pub buffer : l ≡ listOf (shiftsOf f) ++ tail
+  pub buffer′ : l′ ≡ l
+  pub held-is : held ≡ sizeFor (shiftsOf f)
+  pub state-is : end ≡ verdictOf f .state
+  pub count-is : count ≡ verdictOf f .index
+  pub table-is : t ≡ tableIn f
+  pub appended : Appended f g bytes
+
+pub equals-fresh :
+    (f tail l : List ℕ) (held : ℕ) (end : State) (count : ℕ) (t : Table) (bytes g l′ : List ℕ) → SameCall f tail l held end count t bytes g l′
+    → (extendedOf l held end count t bytes ≡ builtOf g (length l′)) × (listAfter l held end count t bytes ≡ bufferAfter g l′)
+equals-fresh f tail l held end count t bytes g l′ h =
+    rw (h .buffer′, h .buffer, h .held-is, h .state-is, h .count-is, h .table-is)
+    (same-answer f g bytes tail (h .appended), same-buffer f g bytes tail (h .appended))
+
+-- of calls of `extend` and of `build`, whatever their contracts allow
 module _
     (κs : Lfts 2) (given : Args extend-call.signature κs) (r : Listed) (left : AtExit extend-call.ended κs) (extended : extend-reads.Post κs given r left)
     (κs′ : Lfts 2) (given′ : Args build-call.signature κs′) (r′ : Listed) (left′ : AtExit build-call.ended κs′) (built : build-reads.Post κs′ given′ r′ left′)
   where
-    pub record SameCall (f tail : List ℕ) : Type 0 where
-      pub buffer : now (given .0) ≡ listOf (shiftsOf f) ++ tail
-      pub buffer′ : now (given′ .1 .0) ≡ now (given .0)
-      pub held-is : given .1 .0 ≡ sizeFor (shiftsOf f)
-      pub state-is : given .1 .1 .0 ≡ verdictOf f .state
-      pub count-is : given .1 .1 .1 .0 ≡ verdictOf f .index
-      pub table-is : given .1 .1 .1 .1 .0 ≡ tableIn f
-      pub appended : Appended f (now (given′ .0)) (now (given .1 .1 .1 .1 .1 .0))
-
-    pub extended-equals-fresh : (f tail : List ℕ) → SameCall f tail → (r ≡ r′) × (now (left .0) ≡ now (left′ .1 .0))
+    pub extended-equals-fresh :
+        (f tail : List ℕ)
+        → SameCall f tail (now (given .0)) (given .1 .0) (given .1 .1 .0) (given .1 .1 .1 .0) (given .1 .1 .1 .1 .0) (now (given .1 .1 .1 .1 .1 .0)) (now (given′ .0)) (now (given′ .1 .0))
+        → (r ≡ r′) × (now (left .0) ≡ now (left′ .1 .0))
     extended-equals-fresh f tail h =
-        let g = now (given′ .0) in
-        let bytes = now (given .1 .1 .1 .1 .1 .0) in
-        let l = now (given .0) in
-        let held = given .1 .0 in
-        let state = given .1 .1 .0 in
-        let count = given .1 .1 .1 .0 in
-        let table = given .1 .1 .1 .1 .0 in
-        let answer : extendedOf l held state count table bytes ≡ builtOf g (length (now (given′ .1 .0))) =
-        rw (h .buffer′, h .buffer, h .held-is, h .state-is, h .count-is, h .table-is) (same-answer f g bytes tail (h .appended))
-        in
-        let buffer : listAfter l held state count table bytes ≡ bufferAfter g (now (given′ .1 .0)) =
-        rw (h .buffer′, h .buffer, h .held-is, h .state-is, h .count-is, h .table-is) (same-buffer f g bytes tail (h .appended))
-        in
-        (extended .0 ∙ answer ∙ sym (built .0), extended .1 ∙ buffer ∙ sym (built .1))
+        let e = equals-fresh f tail _ _ _ _ _ _ _ _ h in
+        (extended .0 ∙ e .0 ∙ sym (built .0), extended .1 ∙ e .1 ∙ sym (built .1))
