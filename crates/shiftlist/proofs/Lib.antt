@@ -16,3 +16,4 @@ pub mod OneList
 pub mod WidthLaws
 pub mod Files
 pub mod Refusals
+pub mod KnownLists
