@@ -28,13 +28,13 @@ use Rattle.shiftlist.specs.declared.walk.Walk.{Walk}
 use Rattle.shiftlist.specs.declared.Listed.{Listed}
 use Rattle.shiftlist.specs.Shifts.{endOf, whole}
 use Rattle.shiftlist.specs.Lists.{entriesOf, headerOf, listedLong, refusedBy, fitting}
-use Rattle.shiftlist.specs.Walks.{codedIn, holding, traceIn, inHand, with, laidBy, sizeWith}
+use Rattle.shiftlist.specs.Walks.{codedIn, holding, traceIn, inHand, with, laidBy, sizeWith, laidSize, laidIn}
 use Rattle.shiftlist.proofs.WalkLaws.{wholeOn, shiftsOn, whole-same, shifts-same, makes}
 use Rattle.shiftlist.proofs.CodeLaws.{laid-as-listed}
 use Rattle.shiftlist.proofs.LaidLaws as kernel
-use Rattle.shiftlist_extend.specs.Extending.{laidOn, grounds, lastEntry, laid, from, size, afterRun, afterGrounds, extendedOf, listAfter}
+use Rattle.shiftlist_extend.specs.Extending.{laidOn, groundsBy, grounds, lastEntry, laid, from, size, afterRun, afterGrounds, extendedOf, listAfter}
 use Rattle.shiftlist_extend.specs.Resuming.{placeOf, resumedOn}
-use Rattle.shiftlist_extend.proofs.GroundLaws.{Grounded, grounded, its-end, its-age}
+use Rattle.shiftlist_extend.proofs.GroundLaws.{Grounded, grounded, its-end, its-age, in-place}
 
 -- ---- the walk that is resumed
 same-trace : (b : Bool) (s : State) (e : Shift) → unfinished (s .phase) ≡ b → traceIn (resumedOn s e) ≡ traceOf s
@@ -121,6 +121,14 @@ module _ (l : List ℕ) (held : ℕ) (s : State) (count : ℕ) (t : Table) (byte
       let other = ne-eqb (extendedOf l held s count t bytes .number) 0 (λ z. m (ap (λ (q : Listed). q .number) e ∙ z)) in
       (e, ap (λ b. cond b stored l) (sym other))
 
+  -- the grounds by the rule that was found broken
+  pub by-rule :
+      (rule k : ℕ) → rule ≡ brokenRule t
+      → k ≡ first (groundsBy (length l) held (u32At l 4) (u32At l 0) (lastEntry l held s count t bytes) s count (length bytes / 4) rule)
+      → k ≡ first (grounds l held s count t bytes)
+  by-rule rule k e h =
+      h ∙ ap (λ q. first (groundsBy (length l) held (u32At l 4) (u32At l 0) (lastEntry l held s count t bytes) s count (length bytes / 4) q)) e
+
   pub at-ground : (k : ℕ) → k ≡ first (grounds l held s count t bytes) → ¬ (k ≡ 0) → Leaves (refusedBy k (cond (eqb k 4) (brokenRule t) 0) 0 0) l
   at-ground k e m =
       let by = refusedBy k (cond (eqb k 4) (brokenRule t) 0) 0 0 in
@@ -159,12 +167,12 @@ module _ (l : List ℕ) (held : ℕ) (s : State) (count : ℕ) (t : Table) (byte
           let o = run t s (recordsIn bytes) in
           ap (λ b. cond b (fitting n (length l)) (refusedBy (o .number) 0 (count + o .count) (o .excess))) (sym (eq-eqb (o .number) 0 z)) ∙ on
 
-      pub not-laid : length l < sizeWith l (placeOf held s) walk count bytes → Leaves (refusedBy 15 0 0 0) l
+      not-laid : length l < sizeWith l (placeOf held s) walk count bytes → Leaves (refusedBy 15 0 0 0) l
       not-laid h =
           let small : length l < n = omega (arith, h, is-size) in
           kept (refusedBy 15 0 0 0) (λ q. omega arith) (ap (λ b. cond b (listedLong n) (refusedBy 15 0 0 0)) (sym (lt-leb n (length l) small)) ∙ over)
 
-      pub was-laid :
+      was-laid :
           sizeWith l (placeOf held s) walk count bytes ≤ length l
           → Leaves (listedLong (sizeWith l (placeOf held s) walk count bytes)) (kernel.laid l (placeOf held s) walk count bytes)
       was-laid h =
@@ -175,4 +183,21 @@ module _ (l : List ℕ) (held : ℕ) (s : State) (count : ℕ) (t : Table) (byte
             ap (λ k. sets (sets l 0 (bytesOf (headerOf ((k - 8) / 16)))) (placeOf held s) (bytesOf (entriesOf (laidBy walk count (codedIn bytes))))) is-size
                 ∙ ap (λ es. sets (sets l 0 (bytesOf (headerOf ((n - 8) / 16)))) (placeOf held s) (bytesOf (entriesOf es))) is-laid
                 ∙ ap (λ b. cond b stored l) (sym zero-there),
+          )
+
+      -- by what was laid
+      pub by-size :
+          (m : ℕ) (b : List ℕ) → m ≡ laidSize l (placeOf held s) walk count bytes → b ≡ laidIn l (placeOf held s) walk count bytes
+          → (m ≡ 0 → Leaves (refusedBy 15 0 0 0) b) × (¬ (m ≡ 0) → Leaves (listedLong m) b)
+      by-size m b em eb =
+          let e = lastEntry l held s count t bytes in
+          let place = in-place (length l) held (u32At l 0) e s count (length bytes / 4) told in (
+            λ q.
+                let k = kernel.none-laid l (placeOf held s) walk count bytes (told .few) place m em q in
+                let a = not-laid (k .0) in
+                (a .0, eb ∙ sym (k .1) ∙ a .1),
+            λ q.
+                let k = kernel.some-laid l (placeOf held s) walk count bytes (told .few) place m em q in
+                let a = was-laid (k .0) in
+                (ap listedLong (k .1) ∙ a .0, eb ∙ k .2 ∙ a .1),
           )

@@ -1,6 +1,6 @@
 -- Laws on the grounds that refuse a list, a file and a state: what it tells that none does, and the last of them.
 -- Assumes nothing.
-use mathlib.Core.Path.{_≡_}
+use mathlib.Core.Path.{_≡_, sym, ap, _∙_}
 use mathlib.Core.Bool.{Bool, true, cond, _&&_}
 use Prim.Native.Nat.{ℕ, _+_, _*_, _-_, _≤_}
 use native.Mathlib.Omega.{arith}
@@ -31,6 +31,13 @@ module _
         eq-eqb rule 0 h,
         q,
       )
+
+  -- by the test of the fit that was made
+  pub by-fit :
+      (shifts′ : ℕ) (e′ : Shift) (r : Bool) → shifts′ ≡ shifts → e′ ≡ e → r ≡ fits shifts′ e′ s count → (k : Bool) → r ≡ k
+      → cond k 0 14 ≡ first (groundsBy len held offset shifts e s count more rule)
+  by-fit shifts′ e′ r es ee er k q =
+      last-ground k (sym (er ∙ ap (λ m. fits m e′ s count) es ∙ ap (λ (x : Shift). fits shifts x s count) ee) ∙ q)
 
 -- ---- none
 pub record Grounded (len held shifts : ℕ) (e : Shift) (s : State) (count more : ℕ) : Type 0 where

@@ -2,20 +2,14 @@
 -- Assumes nothing.
 use mathlib.Core.Path.{sym, ap, _∙_}
 use mathlib.Core.Bool.{cond}
-use Prim.Native.Nat.{_-_, _/_, _≤_}
+use Prim.Native.Nat.{_-_, _≤_}
 use native.Mathlib.Omega.{arith}
 use lib.Dec.{eqb}
-use lib.ListN.{length}
 use borrow.Author.Needs.{needs}
-use Rattle.checks.specs.Checks.{first}
-use Rattle.numbers.specs.Bytes.{u32At}
 use Rattle.verdict.specs.declared.Verdict.{Verdict}
-use Rattle.shiftlist.specs.Lists.{listedLong, refusedBy, shiftAt}
-use Rattle.shiftlist.proofs.LaidLaws.{none-laid, some-laid}
-use Rattle.shiftlist_extend.specs.Extending.{groundsBy}
-use Rattle.shiftlist_extend.specs.Resuming.{placeOf, resumedOn}
-use Rattle.shiftlist_extend.proofs.GroundLaws.{in-place}
-use Rattle.shiftlist_extend.proofs.ExtendLaws.{index-small, at-ground, told, at-run, not-laid, was-laid}
+use Rattle.verdict.proofs.Verdicts.{outcome}
+use Rattle.shiftlist.specs.Lists.{refusedBy}
+use Rattle.shiftlist_extend.proofs.ExtendLaws.{index-small, by-rule, at-ground, at-run, by-size}
 use Rattle.shiftlist_extend.proofs.extend.Statement.{statement}
 use Rattle.shiftlist_extend.proofs.extend.Tie as tie
 
@@ -23,17 +17,12 @@ returns : tie.Need-returns
 returns c =
     let g = c .before .before .before in
     let a = g .before .before .before .before .before .args in
-    let l = a .list .now in
-    let bytes = a .records .now in
-    let rule = g .before .before .broken-rule .ensures in
+    let rule = g .before .before .broken-rule in
     let k = g .ground .result in
-    let e =
-    g .ground .ensures
-    ∙ ap (λ q. first (groundsBy (length l) (a .held) (u32At l 4) (u32At l 0) (shiftAt l (a .held - 16)) (a .state) (a .count) (length bytes / 4) q)) rule
-    in
-    let n = at-ground l (a .held) (a .state) (a .count) (a .table) bytes k e (c .before .before .if1 .taken) in (
+    let e = by-rule (a .list .now) (a .held) (a .state) (a .count) (a .table) (a .records .now) (rule .result) k (rule .ensures) (g .ground .ensures) in
+    let n = at-ground (a .list .now) (a .held) (a .state) (a .count) (a .table) (a .records .now) k e (c .before .before .if1 .taken) in (
       c .refused .ensures
-          ∙ ap (λ q. refusedBy k q 0 0) (c .before .if-four .ensures ∙ ap (λ q. cond (eqb k 4) q 0) rule)
+          ∙ ap (λ q. refusedBy k q 0 0) (c .before .if-four .ensures ∙ ap (λ q. cond (eqb k 4) q 0) (rule .ensures))
           ∙ n .0,
       n .1,
     )
@@ -53,18 +42,11 @@ returns-2 c =
     let v = c .before .before .before .judge-records in
     let g = c .before .before .before .before .before in
     let a = g .before .before .before .before .before .args in
-    let l = a .list .now in
-    let bytes = a .records .now in
-    let e =
-    g .ground .ensures
-    ∙ ap (λ q. first (groundsBy (length l) (a .held) (u32At l 4) (u32At l 0) (shiftAt l (a .held - 16)) (a .state) (a .count) (length bytes / 4) q))
-    (g .before .before .broken-rule .ensures)
-    in
+    let rule = g .before .before .broken-rule in
+    let e = by-rule (a .list .now) (a .held) (a .state) (a .count) (a .table) (a .records .now) (rule .result) (g .ground .result) (rule .ensures) (g .ground .ensures) in
     let n =
-    at-run l (a .held) (a .state) (a .count) (a .table) bytes (sym e ∙ c .before .before .before .before .if1 .left)
-    (record { count = v .result .index; number = v .result .number; excess = v .result .excess; state = v .result .state })
-    (ap (λ (x : Verdict). record { count = x .index; number = x .number; excess = x .excess; state = x .state }) (v .ensures))
-    (c .before .before .if2 .taken)
+    at-run (a .list .now) (a .held) (a .state) (a .count) (a .table) (a .records .now) (sym e ∙ c .before .before .before .before .if1 .left)
+    (outcome (v .result)) (ap outcome (v .ensures)) (c .before .before .if2 .taken)
     in
     (c .refused2 .ensures ∙ n .0, n .1)
 
@@ -74,25 +56,16 @@ returns-3 c =
     let v = went .before .before .before .judge-records in
     let g = went .before .before .before .before .before in
     let a = g .before .before .before .before .before .args in
-    let l = a .list .now in
-    let bytes = a .records .now in
-    let last = shiftAt l (a .held - 16) in
-    let e =
-    g .ground .ensures
-    ∙ ap (λ q. first (groundsBy (length l) (a .held) (u32At l 4) (u32At l 0) last (a .state) (a .count) (length bytes / 4) q))
-    (g .before .before .broken-rule .ensures)
-    in
-    let none = sym e ∙ went .before .before .before .before .if1 .left in
+    let rule = g .before .before .broken-rule in
+    let e = by-rule (a .list .now) (a .held) (a .state) (a .count) (a .table) (a .records .now) (rule .result) (g .ground .result) (rule .ensures) (g .ground .ensures) in
     let z = sym (ap (λ (x : Verdict). x .number) (v .ensures)) ∙ went .before .before .if2 .left in
     let clock : a .state .clock ≤ 4294967295 = omega (arith, g .before .before .before .before .before .good) in
-    let t = told l (a .held) (a .state) (a .count) (a .table) bytes none in
-    let n =
-    none-laid l (placeOf (a .held) (a .state)) (resumedOn (a .state) last) (a .count) bytes (t .few)
-    (in-place (length l) (a .held) (u32At l 0) last (a .state) (a .count) (length bytes / 4) t) (went .go-on .result) (went .go-on .ensures .0)
-    (c .before .if3 .taken)
+    let k =
+    by-size (a .list .now) (a .held) (a .state) (a .count) (a .table) (a .records .now) (sym e ∙ went .before .before .before .before .if1 .left) z clock
+    (went .go-on .result) (went .go-on .last .0) (went .go-on .ensures .0) (went .go-on .ensures .1)
     in
-    let k = not-laid l (a .held) (a .state) (a .count) (a .table) bytes none z clock (n .0) in
-    (c .refused3 .ensures ∙ k .0, went .go-on .ensures .1 ∙ sym (n .1) ∙ k .1)
+    let n = k .0 (c .before .if3 .taken) in
+    (c .refused3 .ensures ∙ n .0, n .1)
 
 returns-4 : tie.Need-returns-4
 returns-4 c =
@@ -100,25 +73,16 @@ returns-4 c =
     let v = went .before .before .before .judge-records in
     let g = went .before .before .before .before .before in
     let a = g .before .before .before .before .before .args in
-    let l = a .list .now in
-    let bytes = a .records .now in
-    let last = shiftAt l (a .held - 16) in
-    let e =
-    g .ground .ensures
-    ∙ ap (λ q. first (groundsBy (length l) (a .held) (u32At l 4) (u32At l 0) last (a .state) (a .count) (length bytes / 4) q))
-    (g .before .before .broken-rule .ensures)
-    in
-    let none = sym e ∙ went .before .before .before .before .if1 .left in
+    let rule = g .before .before .broken-rule in
+    let e = by-rule (a .list .now) (a .held) (a .state) (a .count) (a .table) (a .records .now) (rule .result) (g .ground .result) (rule .ensures) (g .ground .ensures) in
     let z = sym (ap (λ (x : Verdict). x .number) (v .ensures)) ∙ went .before .before .if2 .left in
     let clock : a .state .clock ≤ 4294967295 = omega (arith, g .before .before .before .before .before .good) in
-    let t = told l (a .held) (a .state) (a .count) (a .table) bytes none in
-    let n =
-    some-laid l (placeOf (a .held) (a .state)) (resumedOn (a .state) last) (a .count) bytes (t .few)
-    (in-place (length l) (a .held) (u32At l 0) last (a .state) (a .count) (length bytes / 4) t) (went .go-on .result) (went .go-on .ensures .0)
-    (c .before .if3 .left)
+    let k =
+    by-size (a .list .now) (a .held) (a .state) (a .count) (a .table) (a .records .now) (sym e ∙ went .before .before .before .before .if1 .left) z clock
+    (went .go-on .result) (went .go-on .last .0) (went .go-on .ensures .0) (went .go-on .ensures .1)
     in
-    let k = was-laid l (a .held) (a .state) (a .count) (a .table) bytes none z clock (n .0) in
-    (c .long .ensures ∙ ap listedLong (n .1) ∙ k .0, went .go-on .ensures .1 ∙ n .2 ∙ k .1)
+    let n = k .1 (c .before .if3 .left) in
+    (c .long .ensures ∙ n .0, n .1)
 
 pub extend-spec : {M : Type 1} → statement M
 extend-spec =

@@ -10,10 +10,9 @@ use borrow.Author.Tests.{not-true, not-false}
 use Rattle.checks.proofs.Checks.{refused}
 use Rattle.checks.proofs.Tests.{tests}
 use Rattle.numbers.specs.Bytes.{u32At}
-use Rattle.shiftlist.specs.declared.Shift.{Shift}
 use Rattle.shiftlist.specs.Lists.{shiftAt}
-use Rattle.shiftlist_extend.specs.Extending.{fits, groundsBy}
-use Rattle.shiftlist_extend.proofs.GroundLaws.{last-ground}
+use Rattle.shiftlist_extend.specs.Extending.{groundsBy}
+use Rattle.shiftlist_extend.proofs.GroundLaws.{by-fit}
 use Rattle.shiftlist_extend.proofs.ground.Statement.{statement}
 use Rattle.shiftlist_extend.proofs.ground.Tie as tie
 
@@ -64,30 +63,26 @@ returns-8 c =
     let n = c .before .before .before .before in
     let a = n .before .before .before .before .before .before .before .before .before .before .args in
     let l = a .list .now in
-    let offset = n .before .before .before .before .before .before .u32-at .ensures in
-    let shifts = n .before .before .before .before .u32-at2 .ensures in
-    let last = c .before .before .shift-at .ensures ∙ ap (shiftAt l) (c .before .before .before .less .ensures) in
-    let fit =
-    sym (c .before .does-fit .ensures ∙ ap (λ k. fits k (c .before .before .shift-at .result) (a .state) (a .count)) shifts ∙ ap (λ (e : Shift). fits (u32At l 0) e (a .state) (a .count)) last)
-    ∙ not-true (c .before .does-fit .result) (c .if8 .taken)
-    in
-    last-ground (length l) (a .held) (u32At l 4) (u32At l 0) (shiftAt l (a .held - 16)) (a .state) (a .count) (a .more) (a .rule) (omega arith) (omega arith)
-    (omega (arith, offset)) (omega (arith, shifts, n .before .before .before .if4 .left)) (omega (arith, n .before .before .if5 .left)) (omega (arith, shifts, n .before .if6 .left)) (omega arith) false fit
+    let shifts = n .before .before .before .before .u32-at2 in
+    let last = c .before .before .shift-at in
+    by-fit (length l) (a .held) (u32At l 4) (u32At l 0) (shiftAt l (a .held - 16)) (a .state) (a .count) (a .more) (a .rule) (omega arith) (omega arith)
+    (omega (arith, n .before .before .before .before .before .before .u32-at .ensures)) (omega (arith, shifts .ensures, n .before .before .before .if4 .left))
+    (omega (arith, n .before .before .if5 .left)) (omega (arith, shifts .ensures, n .before .if6 .left)) (omega arith) (shifts .result) (last .result)
+    (c .before .does-fit .result) (shifts .ensures) (last .ensures ∙ ap (shiftAt l) (c .before .before .before .less .ensures)) (c .before .does-fit .ensures) false
+    (not-true (c .before .does-fit .result) (c .if8 .taken))
 
 returns-9 : tie.Need-returns-9
 returns-9 c =
     let n = c .before .before .before .before in
     let a = n .before .before .before .before .before .before .before .before .before .before .args in
     let l = a .list .now in
-    let offset = n .before .before .before .before .before .before .u32-at .ensures in
-    let shifts = n .before .before .before .before .u32-at2 .ensures in
-    let last = c .before .before .shift-at .ensures ∙ ap (shiftAt l) (c .before .before .before .less .ensures) in
-    let fit =
-    sym (c .before .does-fit .ensures ∙ ap (λ k. fits k (c .before .before .shift-at .result) (a .state) (a .count)) shifts ∙ ap (λ (e : Shift). fits (u32At l 0) e (a .state) (a .count)) last)
-    ∙ not-false (c .before .does-fit .result) (c .if8 .left)
-    in
-    last-ground (length l) (a .held) (u32At l 4) (u32At l 0) (shiftAt l (a .held - 16)) (a .state) (a .count) (a .more) (a .rule) (omega arith) (omega arith)
-    (omega (arith, offset)) (omega (arith, shifts, n .before .before .before .if4 .left)) (omega (arith, n .before .before .if5 .left)) (omega (arith, shifts, n .before .if6 .left)) (omega arith) true fit
+    let shifts = n .before .before .before .before .u32-at2 in
+    let last = c .before .before .shift-at in
+    by-fit (length l) (a .held) (u32At l 4) (u32At l 0) (shiftAt l (a .held - 16)) (a .state) (a .count) (a .more) (a .rule) (omega arith) (omega arith)
+    (omega (arith, n .before .before .before .before .before .before .u32-at .ensures)) (omega (arith, shifts .ensures, n .before .before .before .if4 .left))
+    (omega (arith, n .before .before .if5 .left)) (omega (arith, shifts .ensures, n .before .if6 .left)) (omega arith) (shifts .result) (last .result)
+    (c .before .does-fit .result) (shifts .ensures) (last .ensures ∙ ap (shiftAt l) (c .before .before .before .less .ensures)) (c .before .does-fit .ensures) true
+    (not-false (c .before .does-fit .result) (c .if8 .left))
 
 pub ground-spec : {M : Type 1} → statement M
 ground-spec =
