@@ -9,8 +9,8 @@ from records import (
     LISTED, UNLISTED, any_record, bad_records, good_amount, packed_pieces, packed_steps, unlisted_code, unlisted_codes,
 )
 from rules import (
-    AT_REST, DEFAULT, GOOD, NO_SUCH_CODE, NOT_ADMITTED, PHASES, REQUESTS, START, TAKE, TICK, TOO_LATE, WRONG_AMOUNT,
-    forbidden,
+    AT_REST, DEFAULT, GOOD, NO_SUCH_CODE, NOT_ADMITTED, PHASES, REQUESTS, RESET, START, TAKE, TICK, TOO_LATE,
+    WRONG_AMOUNT, forbidden,
 )
 from search import first_found
 from step_cases import aimed_steps, aimed_tick, allowing, free_state, limits, past_both, refused_step, unlisted
@@ -120,8 +120,8 @@ def every_table(chance):
 def every_unlisted_field(chance):
     """States that are not listed: without a record, and with a first one that is refused with each number."""
     for field, least in LISTED_NUMBERS.items():
-        for value in (least, chance.randint(least, 255), 255):
-            code = chance.choice(LISTED)
+        values = least, chance.randint(least, 255), 255
+        for value, code in zip(values, chance.sample((TICK, RESET, chance.choice(LISTED)), len(values))):
             state = allowing(chance, code, **{field: value})
             good = packed_steps([(code, good_amount(chance, code))])
             yield block_case(good_table(chance), state, left_over(chance, chance.choice(LEFT_OVER), code))

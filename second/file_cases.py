@@ -148,12 +148,14 @@ def wrong_lengths(chance, file):
 
 
 def damaged_files(chance):
-    """Files with each damage, with tables at the edge of each rule, and with several things wrong at once."""
+    """Files with each damage, of a table alone, with tables at the edge of each rule, and with several things wrong."""
     for table in (None, admitted_table(chance)):
         file = file_of(table, packed_steps(any_walk(chance, DEFAULT) + [(TICK, 1)]))
         yield from all_three(chance, file)
         for damaged in (*wrong_headers(chance, file), *wrong_lengths(chance, file)):
             yield from chance.sample(list(all_three(chance, damaged)), 2)
+    for table in (admitted_table(chance), broken_table(chance)):
+        yield from all_three(chance, file_of(table, b""))
     for rule in range(1, 16):
         for table in edge_tables(chance, rule):
             yield from all_three(chance, file_with(chance, table, any_walk(chance, DEFAULT)))

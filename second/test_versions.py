@@ -30,6 +30,8 @@ def script():
     """The program `sharpness` as a module."""
     loader = SourceFileLoader("sharpness", str(HERE / "sharpness"))
     module = module_from_spec(spec_from_loader("sharpness", loader))
+    # Those who try versions look it up by its name.
+    sys.modules["sharpness"] = module
     loader.exec_module(module)
     return module
 
