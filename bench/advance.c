@@ -2,7 +2,7 @@
 #include "reference.h"
 #include "rules.h"
 
-uint8_t reference_advance(munasirel_state *state, const uint16_t table[LIMITS], const uint8_t record[4], uint64_t *excess)
+uint8_t reference_advance(munasirel_state *state, const uint16_t table[ENTRIES], const uint8_t record[4], uint64_t *excess)
 {
     uint8_t code;
     uint16_t amount;

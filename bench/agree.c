@@ -1,11 +1,11 @@
-/* Holds the library and the C version to each other: on the files named, on files made by chance, half of them damaged, on single
- * records and blocks of 0 to 300 bytes at any state and under any table, and on lists of shifts, what is fetched from them and their
- * extensions. The records of the files named come in blocks too, and extend their lists.
+/* Holds the library and the C version to each other: on the files named, on files made by chance, half of them damaged, on files of
+ * about the most records, on single records and blocks of 0 to 300 bytes at any state and under any table, and on lists of shifts,
+ * what is fetched from them and their extensions. The records of the files named come in blocks too, and extend their lists.
  *
  *     agree FILE..
  *
- * The status is 0 where nothing differs, and every number, rule and kind of block that can come up did, and an excess that takes
- * more than 32 bits. */
+ * The status is 0 where nothing differs, and every number, rule, kind of block and case of the clutch's delays that can come up did, and
+ * an excess that takes more than 32 bits. */
 #include <stdio.h>
 #include <string.h>
 
@@ -15,11 +15,16 @@ enum { MADE_FILES = 20000, MADE_RECORDS = 200000, MADE_BLOCKS = 40000, MADE_EXTE
 
 /* How often each number, rule and kind of block and an excess above 32 bits came up. */
 enum { ACCEPTED, REFUSED_FIRST, REFUSED_LATER, BAD_TABLE, EMPTY, KINDS }; /* a block without a whole record is empty */
-static unsigned numbers_of_files[14], numbers_of_records[14], numbers_of_blocks[14], rules[16], kinds[KINDS], above_32_bits;
+static unsigned numbers_of_files[14], numbers_of_records[14], numbers_of_blocks[14], rules[17], kinds[KINDS], above_32_bits;
 static unsigned numbers_of_lists[16], numbers_of_fetches[16], numbers_of_extensions[16];
 
+/* How often cases of the clutch's delays came up: a clutch that is good or failed too early, also where that is by its stage time alone;
+ * a file of 22 entries that is accepted, also with four zeros, or has such a clutch; an extension past the smaller of the two most. */
+enum { EARLY_GOOD, EARLY_FAILED, EARLY_AHEAD, OF_22, OF_22_ZEROS, EARLY_IN_FILE, PAST_MOST_22, CASES };
+static unsigned cases[CASES];
+
 /* ---- the comparison */
-static munasirel_limits limits_in(const uint16_t table[LIMITS])
+static munasirel_limits limits_in(const uint16_t table[ENTRIES])
 {
     munasirel_limits limits;
     memcpy(&limits, table, sizeof limits);
@@ -48,18 +53,25 @@ static int same_verdict(void)
     uint8_t rule = c.number == MUNASIREL_TABLE_NOT_ADMITTED ? munasirel_admit(munasirel_table(file, file_length)) : 0;
     numbers_of_files[library.number]++;
     rules[library.rule]++;
+    if (file_length > 12 && file[2] == ENTRIES) {
+        cases[OF_22] += library.number == 0;
+        cases[OF_22_ZEROS] += library.number == 0 && munasirel_table(file, file_length).clutch_open_de == 0;
+        cases[EARLY_IN_FILE] += library.number == MUNASIREL_TOO_EARLY && !is_engine_phase(library.state.phase);
+    }
     return library.number == c.number && library.rule == c.rule && library.accepted == c.accepted && library.excess == c.excess &&
            same_state(&library.state, &c.state) && munasirel_judge(file, file_length) == c.number && rule == c.rule &&
            same_line(MUNASIREL_LINE_ROOM) && same_line(20);
 }
 
-static int same_advance(const munasirel_state *state, const uint16_t table[LIMITS], const uint8_t record[4])
+static int same_advance(const munasirel_state *state, const uint16_t table[ENTRIES], const uint8_t record[4])
 {
     munasirel_state library = *state, c = *state;
     uint64_t excess = UINT64_MAX, c_excess = UINT64_MAX - 1;
     uint8_t number = munasirel_advance(&library, limits_in(table), record[0], record[1], record[2], record[3], &excess);
     numbers_of_records[number]++;
     above_32_bits += excess > UINT32_MAX;
+    if (number == MUNASIREL_TOO_EARLY && !is_engine_phase(state->phase))
+        cases[!has_delays(table) ? EARLY_AHEAD : record[0] == MUNASIREL_STEP_DEVICE_GOOD ? EARLY_GOOD : EARLY_FAILED]++;
     return number == reference_advance(&c, table, record, &c_excess) && excess == c_excess && same_state(&library, &c);
 }
 
@@ -73,7 +85,7 @@ static int kind_of(uint8_t number, size_t length, size_t accepted)
 }
 
 /* Advances the state, and sets how many records are accepted. */
-static int same_block(munasirel_state *state, const uint16_t table[LIMITS], const uint8_t *records, size_t length, size_t *accepted)
+static int same_block(munasirel_state *state, const uint16_t table[ENTRIES], const uint8_t *records, size_t length, size_t *accepted)
 {
     munasirel_state c = *state;
     size_t c_accepted = SIZE_MAX - 1;
@@ -134,6 +146,9 @@ static int same_extension(void)
     munasirel_listed c_listed = reference_extend(c, extension.room, extension.held, extension.state, extension.count,
                                                  extension.table, extension.records, extension.length);
     numbers_of_extensions[listed.number]++;
+    size_t records = extension.count + extension.length / 4;
+    if (listed.number == MUNASIREL_BAD_HEADER && records > MUNASIREL_MOST_RECORDS_22 && records <= MUNASIREL_MOST_RECORDS)
+        cases[PAST_MOST_22]++;
     if (listed.number == 0)
         extension.held = listed.length;
     return same_listed(&listed, &c_listed) && memcmp(extension.list, c, size) == 0;
@@ -205,12 +220,31 @@ static unsigned compare_made(void)
     return differ;
 }
 
+/* With no entries, with eighteen, and with twenty-two that have no delays and that have some. */
+static unsigned compare_longest(void)
+{
+    uint16_t table[ENTRIES];
+    unsigned differ = 0;
+    for (uint16_t count = MUNASIREL_MOST_RECORDS_22 - 1; count <= MUNASIREL_MOST_RECORDS + 1; count++)
+        for (int i = 0; i < 4; i++) {
+            memcpy(table, default_table, sizeof table);
+            if (i == 3)
+                make_delays(table);
+            make_ticks(table, i == 0 ? 0 : i == 1 ? LIMITS : ENTRIES, count);
+            if (!same_verdict() || !same_list()) {
+                printf("%u ticks with table %d: the verdicts or the lists differ\n", (unsigned)count, i);
+                differ++;
+            }
+        }
+    return differ;
+}
+
 static unsigned compare_records(void)
 {
     unsigned differ = 0;
     for (int i = 0; i < MADE_RECORDS; i++) {
         munasirel_state state;
-        uint16_t table[LIMITS];
+        uint16_t table[ENTRIES];
         uint8_t record[4];
         make_state(&state);
         make_table(table);
@@ -228,7 +262,7 @@ static unsigned compare_blocks(void)
     unsigned differ = 0;
     for (int i = 0; i < MADE_BLOCKS; i++) {
         munasirel_state state;
-        uint16_t table[LIMITS];
+        uint16_t table[ENTRIES];
         uint8_t block[LONGEST_BLOCK];
         size_t accepted;
         make_state(&state);
@@ -269,8 +303,10 @@ static unsigned never_came_up(void)
         never += (i <= 3 || i == 14) && numbers_of_fetches[i] == 0;
         never += numbers_of_extensions[i] == 0;
     }
-    for (unsigned i = 0; i < 16; i++)
+    for (unsigned i = 0; i < 17; i++)
         never += rules[i] == 0;
+    for (unsigned i = 0; i < CASES; i++)
+        never += cases[i] == 0;
     for (unsigned i = 0; i < KINDS; i++)
         never += kinds[i] == 0;
     return never;
@@ -279,12 +315,15 @@ static unsigned never_came_up(void)
 int main(int words, char **word)
 {
     unsigned differ =
-        compare_named(words - 1, word + 1) + compare_made() + compare_records() + compare_blocks() + compare_extensions();
+        compare_named(words - 1, word + 1) + compare_made() + compare_longest() + compare_records() + compare_blocks() +
+        compare_extensions();
     unsigned never = never_came_up();
     printf("Blocks, with those of the files: %u accepted, %u refused at the first record, %u later, %u with 4, %u empty.\n",
            kinds[ACCEPTED], kinds[REFUSED_FIRST], kinds[REFUSED_LATER], kinds[BAD_TABLE], kinds[EMPTY]);
     printf("Extensions of lists, with those of the files: %u accepted, %u not fitting their state, %u without room.\n",
            numbers_of_extensions[0], numbers_of_extensions[MUNASIREL_GAP], numbers_of_extensions[MUNASIREL_NO_ROOM]);
+    printf("Clutches too early: %u good, %u failed, %u by their stage time alone. Files of 22 entries that are accepted: %u.\n",
+           cases[EARLY_GOOD], cases[EARLY_FAILED], cases[EARLY_AHEAD], cases[OF_22]);
     printf("Held to each other on %d files, %d made by chance, %d single records, %d blocks and %d extensions: ", words - 1,
            MADE_FILES, MADE_RECORDS, MADE_BLOCKS, MADE_EXTENSIONS);
     printf("%u differ, %u cases never came up.\n", differ, never);

@@ -3,7 +3,7 @@
 #include "reference.h"
 #include "rules.h"
 
-uint8_t reference_advance_block(munasirel_state *state, const uint16_t table[LIMITS], const uint8_t *records, size_t length,
+uint8_t reference_advance_block(munasirel_state *state, const uint16_t table[ENTRIES], const uint8_t *records, size_t length,
                                 size_t *accepted, uint64_t *excess)
 {
     size_t count = length / 4, index = 0;

@@ -9,8 +9,8 @@
 
 enum { LONGEST_BLOCK = 300 };
 
-/* The file read or made. */
-static uint8_t file[MUNASIREL_LONGEST_FILE + 1];
+/* The file read or made, with room for records that are too many. */
+static uint8_t file[MUNASIREL_LONGEST_FILE + 64];
 static size_t file_length;
 
 static uint32_t below(uint32_t bound)
@@ -27,8 +27,23 @@ static int once_in(uint32_t bound)
     return below(bound) == 0;
 }
 
-/* A table that keeps each rule narrowly, or with one entry changed. */
-static void make_table(uint16_t table[LIMITS])
+static void clear_delays(uint16_t table[ENTRIES])
+{
+    memset(table + LIMITS, 0, (ENTRIES - LIMITS) * sizeof *table);
+}
+
+/* Delays to open and to close that nearly always keep rule 16. */
+static void make_delays(uint16_t table[ENTRIES])
+{
+    for (int i = 0; i < 2; i++) {
+        uint16_t device_limit = table[CLUTCH_OPEN_DL + i], plain = 1 + below(device_limit / 2 + 1u);
+        table[CLUTCH_OPEN_DE + 2 * i] = plain;
+        table[ERROR_CLUTCH_OPEN_DE + 2 * i] = once_in(4) ? device_limit : plain + 1 + below(device_limit / 2 + 1u);
+    }
+}
+
+/* A table that keeps each rule narrowly, with delays or without, or with one entry changed. */
+static void make_table(uint16_t table[ENTRIES])
 {
     for (int i = CHANNEL_DL; i <= GEAR_RELEASE_DL; i++)
         table[i] = 1 + below(40);
@@ -48,17 +63,20 @@ static void make_table(uint16_t table[LIMITS])
     uint16_t g1 = table[ZERO_EX] + table[RELEASE_DL] + f, g2 = n + table[SET_GEAR_DL];
     const uint16_t sums[] = {f, n, g1, g2, g1 > g2 ? g1 : g2};
     table[CHANGE_DL] = sums[once_in(4) ? below(4) : 4];
+    clear_delays(table);
+    if (once_in(2))
+        make_delays(table);
     if (once_in(4))
-        table[below(LIMITS)] += 2 * below(2) - 1;
+        table[below(ENTRIES)] += 2 * below(2) - 1;
     else if (once_in(20))
-        table[below(LIMITS)] = below(2);
+        table[below(ENTRIES)] = below(2);
 }
 
 /* A step of any kind; a tick ends nearby, or at a limit or right beside it. */
-static void make_record(const munasirel_state *state, const uint16_t table[LIMITS], uint8_t record[4])
+static void make_record(const munasirel_state *state, const uint16_t table[ENTRIES], uint8_t record[4])
 {
     int is_tick = once_in(2);
-    uint16_t limit = table[below(LIMITS)];
+    uint16_t limit = table[below(ENTRIES)];
     const uint32_t ends[] = {state->clock + below(6), state->stage_time + limit, state->phase_time + limit, UINT32_MAX};
     uint16_t amount = is_tick ? ends[below(4)] + below(3) - 1 - state->clock : 0;
     uint8_t other = 1 + below(MUNASIREL_STEP_RESET - 1);
@@ -78,25 +96,44 @@ static void put_numbers(uint8_t *bytes, const uint16_t *numbers, size_t count)
     }
 }
 
+/* The file's header, the first so many entries of a table, and the length with so many records. */
+static void put_head(const uint16_t table[ENTRIES], uint16_t entries, uint16_t count)
+{
+    const uint16_t header[] = {12, entries, 12 + 2 * entries, 0, count, 0};
+    put_numbers(file, header, 6);
+    put_numbers(file + 12, table, entries);
+    file_length = 12 + 2 * (size_t)entries + 4 * (size_t)count;
+}
+
 /* A file of steps that, but for a few, are allowed one after the other. */
 static void make_file(void)
 {
-    uint16_t table[LIMITS], entries = once_in(2) ? LIMITS : 0, count = 0;
+    static const uint16_t numbers[] = {0, LIMITS, ENTRIES, ENTRIES};
+    uint16_t table[ENTRIES], entries = numbers[below(4)], count = 0;
     munasirel_state state = {0};
     uint64_t excess;
     memcpy(table, default_table, sizeof default_table);
     if (entries != 0)
         make_table(table);
+    if (entries == LIMITS)
+        clear_delays(table);
     for (uint32_t tries = below(1000); tries > 0; tries--) {
         uint8_t *record = file + 12 + 2 * entries + 4 * count;
         make_record(&state, table, record);
-        if (reference_advance(&state, table, record, &excess) == 0 || once_in(400))
+        uint8_t number = reference_advance(&state, table, record, &excess);
+        if (number == 0 || once_in(number == MUNASIREL_TOO_EARLY ? 20 : 400))
             count++;
     }
-    const uint16_t header[] = {12, entries, 12 + 2 * entries, 0, count, 0};
-    put_numbers(file, header, 6);
-    put_numbers(file + 12, table, entries);
-    file_length = 12 + 2 * (size_t)entries + 4 * (size_t)count;
+    put_head(table, entries, count);
+}
+
+/* A file of so many ticks at rest. */
+static void make_ticks(const uint16_t table[ENTRIES], uint16_t entries, uint16_t count)
+{
+    static const uint8_t tick_of_9[] = {MUNASIREL_STEP_TICK, 0, 9, 0};
+    put_head(table, entries, count);
+    for (size_t at = 12 + 2 * (size_t)entries; at < file_length; at += 4)
+        memcpy(file + at, tick_of_9, 4);
 }
 
 /* One byte changed, or another length. */
@@ -117,9 +154,11 @@ static void damage_file(void)
     }
 }
 
-/* Any state: nearly listed, its times shortly before its clock, or not; before the clock's beginning they lie at its end. */
+/* Any state: nearly listed, its times shortly before its clock, or not; before the clock's beginning they lie at its end. In one of
+ * eight the clutch has worked for about as long as its delays. */
 static void make_state(munasirel_state *state)
 {
+    static const uint8_t clutch_phases[] = {2, 5, 7, 11, 15, 16, 18, 21};
     const uint32_t clocks[] = {UINT32_MAX - below(70000), below(30), 1000 + below(1000), 1000 + below(1000)};
     state->clock = clocks[below(4)];
     state->gear_box = once_in(20) ? below(256) : below(2);
@@ -129,11 +168,16 @@ static void make_state(munasirel_state *state)
     state->stage_time = state->clock - (once_in(20) ? below(UINT32_MAX) : below(300));
     state->request_time = below(UINT32_MAX);
     state->failed_phase = below(256);
+    if (once_in(8)) {
+        state->phase = clutch_phases[below(8)];
+        state->stage = MUNASIREL_STAGE_WORKING;
+        state->stage_time = state->clock - below(40);
+    }
 }
 
 /* A block of any length: steps that, but for a few, are allowed one after the other from the state on, up to one for which none was
  * found, and bytes left over. Returns its length. */
-static size_t make_block(munasirel_state state, const uint16_t table[LIMITS], uint8_t block[LONGEST_BLOCK])
+static size_t make_block(munasirel_state state, const uint16_t table[ENTRIES], uint8_t block[LONGEST_BLOCK])
 {
     size_t length = below(LONGEST_BLOCK + 1);
     uint64_t excess;
@@ -158,7 +202,7 @@ static struct {
     size_t room, held;
     munasirel_state state;
     uint32_t count;
-    uint16_t table[LIMITS];
+    uint16_t table[ENTRIES];
     uint8_t records[LONGEST_BLOCK];
     size_t length;
 } extension;

@@ -18,7 +18,7 @@ static int fits(const uint8_t *list, size_t held, const munasirel_state *state, 
 }
 
 munasirel_listed reference_extend(uint8_t *list, size_t list_length, size_t held, munasirel_state state, uint32_t count,
-                                  const uint16_t table[LIMITS], const uint8_t *records, size_t records_length)
+                                  const uint16_t table[ENTRIES], const uint8_t *records, size_t records_length)
 {
     size_t more = records_length / 4;
     uint8_t entries[MUNASIREL_LONGEST_LIST], *behind = entries;
@@ -28,7 +28,7 @@ munasirel_listed reference_extend(uint8_t *list, size_t list_length, size_t held
     uint8_t number = refused_list(list, held);
     if (number != 0)
         return (munasirel_listed){number, 0, 0, 0, 0};
-    if (count + more > MUNASIREL_MOST_RECORDS || u32_at(list) > count)
+    if (count + more > most_records(has_delays(table) ? ENTRIES : LIMITS) || u32_at(list) > count)
         return (munasirel_listed){MUNASIREL_BAD_HEADER, 0, 0, 0, 0};
     uint8_t rule = broken_rule(table);
     if (rule != 0)

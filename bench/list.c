@@ -1,6 +1,6 @@
 /* The straightforward C version's list of shifts: a step file is judged and listed in one pass, into a list of its own that is copied
  * where the file is accepted and the list fits. It is the quickest of the shapes that were counted, in instructions a record of the
- * busy and of the parked night:
+ * busy and of the parked night, before clutches had delays:
  *
  *     70.91, 56.39   the judge, a count of the requests, then a second pass that keeps the phase
  *     69.41, 54.90   the same, counted in 16 bits
@@ -13,7 +13,8 @@
  *     48.86 to 50.16, 34.01 to 35.02   in one pass as here, otherwise written
  *     47.90, 33.01   as here
  *
- * Without a list the judge of reference.c takes 49.03 and 35.02: such differences come from how the compiler shares out registers. */
+ * Without a list the judge of reference.c took 49.03 and 35.02: such differences come from how the compiler shares out registers. With
+ * the delays they take 51.21 and 34.02 with a list, and 50.89 and 35.02 without. */
 #include <string.h>
 
 #include "reference.h"
@@ -22,7 +23,7 @@
 munasirel_listed reference_list(const uint8_t *file, size_t file_length, uint8_t *out, size_t out_length)
 {
     munasirel_state state = {0};
-    uint16_t table[LIMITS];
+    uint16_t table[ENTRIES];
     uint8_t list[MUNASIREL_LONGEST_LIST], *behind = list + LIST_HEADER;
 
     uint8_t number = refused_header(file, file_length);

@@ -60,7 +60,7 @@ static uint8_t library_advance(void)
 static uint8_t c_advance(void)
 {
     munasirel_limits limits = munasirel_table(file, file_length);
-    uint16_t table[18];
+    uint16_t table[22];
     munasirel_state state = {0};
     uint8_t number = 0;
     uint64_t excess;
@@ -92,7 +92,7 @@ static uint8_t library_block(void)
 static uint8_t c_block(void)
 {
     munasirel_limits limits = munasirel_table(file, file_length);
-    uint16_t table[18];
+    uint16_t table[22];
     munasirel_state state = {0};
     uint8_t number = 0;
     size_t length, accepted;
@@ -137,7 +137,7 @@ static uint8_t library_extend(void)
 static uint8_t c_extend(void)
 {
     munasirel_limits limits = munasirel_table(file, file_length);
-    uint16_t table[18];
+    uint16_t table[22];
     munasirel_listed listed = empty_list();
     uint32_t count = 0;
     size_t length;

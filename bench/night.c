@@ -1,9 +1,11 @@
-/* Writes the first so many records of a night to standard output, as a step file without a table or with the default one in it.
+/* Writes the first so many records of a night to standard output, as a step file without a table, with the default one in it, or with
+ * the house's, which has delays of the clutch.
  *
- *     night busy|parked RECORDS [table]
+ *     night busy|parked RECORDS [table|house]
  *
  * A busy night goes through every route over and over, as late as the default table allows: ticks end at the channel's and the
- * device's limits and, where the engine waits for the clutch, at the DE and the phase limit. A parked night is ticks at rest. */
+ * device's limits and, where the engine waits for the clutch, at the DE and the phase limit. That is later than the house's delays
+ * ask for. A parked night is ticks at rest. */
 #include <stdio.h>
 #include <stdlib.h>
 #include <string.h>
@@ -54,6 +56,7 @@ int main(int words, char **word)
     const struct step *steps = is_busy ? busy : parked;
     size_t round = is_busy ? sizeof busy / sizeof *busy : sizeof parked / sizeof *parked;
     size_t records = (size_t)atoi(word[2]);
+    munasirel_limits table = words > 3 && strcmp(word[3], "house") == 0 ? munasirel_house() : munasirel_table(file, 0);
     size_t length, index;
     uint8_t rule;
 
@@ -63,7 +66,7 @@ int main(int words, char **word)
         codes[i] = steps[i % round].code;
         amounts[i] = steps[i % round].amount;
     }
-    uint8_t number = munasirel_write(munasirel_table(file, 0), words > 3, codes, records, amounts, records, file, sizeof file,
-                                     &length, &index, &rule);
+    uint8_t number =
+        munasirel_write(table, words > 3, codes, records, amounts, records, file, sizeof file, &length, &index, &rule);
     return number == 0 && fwrite(file, 1, length, stdout) == length ? 0 : 1;
 }

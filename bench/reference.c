@@ -8,7 +8,7 @@
 munasirel_judged reference_verdict(const uint8_t *file, size_t file_length)
 {
     munasirel_state state = {0};
-    uint16_t table[LIMITS];
+    uint16_t table[ENTRIES];
 
     uint8_t number = refused_header(file, file_length);
     if (number != 0)

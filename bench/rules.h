@@ -1,7 +1,9 @@
-/* The rules of document 01 in straightforward C: the limit table, the phases, the thirteen steps, what a file's and a record's bytes
- * mean. The judge, the running judge, its blocks, the list and its extension each compile their own copy. */
+/* The rules of document 01, as document 02 changes them, in straightforward C: the limit table, the phases, the thirteen steps, what
+ * a file's and a record's bytes mean. The judge, the running judge, its blocks, the list and its extension each compile their own copy. */
 #ifndef RULES_H
 #define RULES_H
+
+#include <string.h>
 
 #include "munasirel.h"
 
@@ -36,13 +38,18 @@ enum {
     RELEASE_DL,
     CLOSE_CLUTCH_DL,
     CHANGE_DL,
-    LIMITS
+    CLUTCH_OPEN_DE,
+    ERROR_CLUTCH_OPEN_DE,
+    CLUTCH_CLOSE_DE,
+    ERROR_CLUTCH_CLOSE_DE,
+    ENTRIES,
+    LIMITS = CLUTCH_OPEN_DE /* the entries before the delays */
 };
 
-static const uint16_t default_table[LIMITS] = {5,   100, 200, 150, 150, 300, 200, 150, 250,
-                                               155, 255, 151, 251, 200, 350, 250, 200, 1500};
+static const uint16_t default_table[ENTRIES] = {5,   100, 200, 150, 150, 300, 200, 150, 250, 155, 255,
+                                                151, 251, 200, 350, 250, 200, 1500, 0, 0, 0, 0};
 
-static inline int is_set(const uint16_t table[LIMITS])
+static inline int is_set(const uint16_t table[ENTRIES])
 {
     for (int i = 0; i < LIMITS; i++)
         if (table[i] == 0)
@@ -50,8 +57,19 @@ static inline int is_set(const uint16_t table[LIMITS])
     return 1;
 }
 
+static inline int has_delays(const uint16_t table[ENTRIES])
+{
+    static const uint16_t none[ENTRIES - LIMITS];
+    return memcmp(table + LIMITS, none, sizeof none) != 0;
+}
+
+static inline int is_delay(uint16_t plain, uint16_t error, uint16_t device_limit)
+{
+    return plain >= 1 && plain < error && error <= device_limit;
+}
+
 /* The first rule that a table breaks, 0 for an admitted one. */
-static inline uint8_t broken_rule(const uint16_t table[LIMITS])
+static inline uint8_t broken_rule(const uint16_t table[ENTRIES])
 {
     uint32_t channels = 2 * (uint32_t)table[CHANNEL_DL];
     uint32_t f = (uint32_t)table[SYNC_DL] + table[OPEN_CLUTCH_DL] + table[SET_GEAR_DL] + table[CLOSE_CLUTCH_DL];
@@ -89,10 +107,18 @@ static inline uint8_t broken_rule(const uint16_t table[LIMITS])
         return 14;
     if (g2 > table[CHANGE_DL])
         return 15;
+    if (has_delays(table) && (!is_delay(table[CLUTCH_OPEN_DE], table[ERROR_CLUTCH_OPEN_DE], table[CLUTCH_OPEN_DL]) ||
+                              !is_delay(table[CLUTCH_CLOSE_DE], table[ERROR_CLUTCH_CLOSE_DE], table[CLUTCH_CLOSE_DL])))
+        return 16;
     return 0;
 }
 
 /* ---- a file */
+static inline uint32_t most_records(int entries)
+{
+    return entries == ENTRIES ? MUNASIREL_MOST_RECORDS_22 : MUNASIREL_MOST_RECORDS;
+}
+
 /* 1, 2 or 3 for a file whose header or length is wrong, else 0. */
 static inline uint8_t refused_header(const uint8_t *file, size_t file_length)
 {
@@ -102,8 +128,8 @@ static inline uint8_t refused_header(const uint8_t *file, size_t file_length)
     uint16_t entries = u16_at(file + 2);
     uint32_t record_offset = u32_at(file + 4);
     uint32_t count = u32_at(file + 8);
-    if (table_offset != 12 || (entries != 0 && entries != LIMITS) || record_offset != 12u + 2u * entries ||
-        count > MUNASIREL_MOST_RECORDS)
+    if (table_offset != 12 || (entries != 0 && entries != LIMITS && entries != ENTRIES) || record_offset != 12u + 2u * entries ||
+        count > most_records(entries))
         return MUNASIREL_BAD_HEADER;
     if (file_length != record_offset + 4 * (size_t)count)
         return MUNASIREL_BAD_LENGTH;
@@ -111,26 +137,28 @@ static inline uint8_t refused_header(const uint8_t *file, size_t file_length)
 }
 
 /* The table of a file with a good header. */
-static inline void read_table(const uint8_t *file, uint16_t table[LIMITS])
+static inline void read_table(const uint8_t *file, uint16_t table[ENTRIES])
 {
     int entries = u16_at(file + 2);
     for (int i = 0; i < LIMITS; i++)
         table[i] = entries == 0 ? default_table[i] : u16_at(file + 12 + 2 * i);
+    for (int i = LIMITS; i < ENTRIES; i++)
+        table[i] = entries == ENTRIES ? u16_at(file + 12 + 2 * i) : 0;
 }
 
 /* ---- orders and phases */
 enum { SYNC = 1, ZERO_TORQUE, OPEN, CLOSE, SET, RELEASE };
 
-/* The entries of an order's limits; EX and DE are the engine's. */
+/* The entries of an order's limits; EX and DE are the engine's, the plain and the error delay the clutch's. */
 static const struct {
-    uint8_t device_limit, phase_limit, ex, de;
+    uint8_t device_limit, phase_limit, ex, de, plain, error;
 } limits_of[] = {
-    [SYNC] = {ENGINE_SYNC_DL, SYNC_DL, SYNC_EX, SYNC_DE},
-    [ZERO_TORQUE] = {ENGINE_ZERO_DL, ZERO_DL, ZERO_EX, ZERO_DE},
-    [OPEN] = {CLUTCH_OPEN_DL, OPEN_CLUTCH_DL, 0, 0},
-    [CLOSE] = {CLUTCH_CLOSE_DL, CLOSE_CLUTCH_DL, 0, 0},
-    [SET] = {GEAR_SET_DL, SET_GEAR_DL, 0, 0},
-    [RELEASE] = {GEAR_RELEASE_DL, RELEASE_DL, 0, 0},
+    [SYNC] = {ENGINE_SYNC_DL, SYNC_DL, SYNC_EX, SYNC_DE, 0, 0},
+    [ZERO_TORQUE] = {ENGINE_ZERO_DL, ZERO_DL, ZERO_EX, ZERO_DE, 0, 0},
+    [OPEN] = {CLUTCH_OPEN_DL, OPEN_CLUTCH_DL, 0, 0, CLUTCH_OPEN_DE, ERROR_CLUTCH_OPEN_DE},
+    [CLOSE] = {CLUTCH_CLOSE_DL, CLOSE_CLUTCH_DL, 0, 0, CLUTCH_CLOSE_DE, ERROR_CLUTCH_CLOSE_DE},
+    [SET] = {GEAR_SET_DL, SET_GEAR_DL, 0, 0, 0, 0},
+    [RELEASE] = {GEAR_RELEASE_DL, RELEASE_DL, 0, 0, 0, 0},
 };
 
 /* Of each phase its order, the next phase when taken, and the phase after asking for the clutch. */
@@ -207,7 +235,23 @@ static inline uint8_t move_stage(munasirel_state *state, uint8_t from, uint8_t t
     return MUNASIREL_ACCEPTED;
 }
 
-static inline uint8_t take(munasirel_state *state, const uint16_t table[LIMITS])
+/* The device is good or failed; a clutch can not be before its delay. */
+static inline uint8_t report(munasirel_state *state, const uint16_t table[ENTRIES], uint8_t to)
+{
+    if (!shifts_in(state, MUNASIREL_STAGE_WORKING))
+        return MUNASIREL_NOT_ALLOWED;
+    uint8_t order = phases[state->phase].order;
+    if (order == OPEN || order == CLOSE) {
+        uint16_t delay = table[to == MUNASIREL_STAGE_GOOD ? limits_of[order].plain : limits_of[order].error];
+        if (state->clock < (uint64_t)state->stage_time + delay)
+            return MUNASIREL_TOO_EARLY;
+    }
+    state->stage = to;
+    state->stage_time = state->clock;
+    return MUNASIREL_ACCEPTED;
+}
+
+static inline uint8_t take(munasirel_state *state, const uint16_t table[ENTRIES])
 {
     if (!shifts_in(state, MUNASIREL_STAGE_GOOD))
         return MUNASIREL_NOT_ALLOWED;
@@ -224,7 +268,7 @@ static inline uint8_t take(munasirel_state *state, const uint16_t table[LIMITS])
     return MUNASIREL_ACCEPTED;
 }
 
-static inline uint8_t ask_clutch(munasirel_state *state, const uint16_t table[LIMITS])
+static inline uint8_t ask_clutch(munasirel_state *state, const uint16_t table[ENTRIES])
 {
     if (!shifts_in(state, MUNASIREL_STAGE_WAITING) || !is_engine_phase(state->phase))
         return MUNASIREL_NOT_ALLOWED;
@@ -235,7 +279,7 @@ static inline uint8_t ask_clutch(munasirel_state *state, const uint16_t table[LI
     return MUNASIREL_ACCEPTED;
 }
 
-static inline uint8_t tick(munasirel_state *state, const uint16_t table[LIMITS], uint16_t amount)
+static inline uint8_t tick(munasirel_state *state, const uint16_t table[ENTRIES], uint16_t amount)
 {
     uint64_t clock = (uint64_t)state->clock + amount;
 
@@ -261,7 +305,7 @@ static inline uint8_t tick(munasirel_state *state, const uint16_t table[LIMITS],
     return MUNASIREL_ACCEPTED;
 }
 
-static inline uint8_t step(munasirel_state *state, const uint16_t table[LIMITS], uint8_t code, uint16_t amount)
+static inline uint8_t step(munasirel_state *state, const uint16_t table[ENTRIES], uint8_t code, uint16_t amount)
 {
     switch (code) {
     case MUNASIREL_STEP_FROM_NEUTRAL:
@@ -273,11 +317,11 @@ static inline uint8_t step(munasirel_state *state, const uint16_t table[LIMITS],
     case MUNASIREL_STEP_DELIVER:
         return move_stage(state, MUNASIREL_STAGE_SENT, MUNASIREL_STAGE_WORKING);
     case MUNASIREL_STEP_DEVICE_GOOD:
-        return move_stage(state, MUNASIREL_STAGE_WORKING, MUNASIREL_STAGE_GOOD);
+        return report(state, table, MUNASIREL_STAGE_GOOD);
     case MUNASIREL_STEP_DEVICE_FAILED:
         if (is_engine_phase(state->phase))
             return MUNASIREL_NOT_ALLOWED;
-        return move_stage(state, MUNASIREL_STAGE_WORKING, MUNASIREL_STAGE_FAILED);
+        return report(state, table, MUNASIREL_STAGE_FAILED);
     case MUNASIREL_STEP_ENGINE_WAITS:
         if (!is_engine_phase(state->phase))
             return MUNASIREL_NOT_ALLOWED;
@@ -326,14 +370,17 @@ static inline uint8_t read_record(const uint8_t record[4], uint8_t *code, uint16
 }
 
 /* How far over a refused record is, by its number and on the state before it; with 9 and 10 the amount is 0. */
-static inline uint64_t excess_of(uint8_t number, const munasirel_state *state, const uint16_t table[LIMITS], const uint8_t record[4])
+static inline uint64_t excess_of(uint8_t number, const munasirel_state *state, const uint16_t table[ENTRIES], const uint8_t record[4])
 {
     uint8_t order = is_unfinished(state->phase) ? phases[state->phase].order : 0;
     uint64_t clock = (uint64_t)state->clock + u16_at(record + 2);
 
     switch (number) {
     case MUNASIREL_TOO_EARLY:
-        return state->phase_time + (uint64_t)table[limits_of[order].de] - clock;
+        if (record[0] == MUNASIREL_STEP_ASK_CLUTCH)
+            return state->phase_time + (uint64_t)table[limits_of[order].de] - clock;
+        return state->stage_time - clock +
+               table[record[0] == MUNASIREL_STEP_DEVICE_GOOD ? limits_of[order].plain : limits_of[order].error];
     case MUNASIREL_TOO_LATE:
         return clock - state->phase_time - table[limits_of[order].ex];
     case MUNASIREL_PAST_PHASE_LIMIT:
@@ -349,7 +396,7 @@ static inline uint64_t excess_of(uint8_t number, const munasirel_state *state, c
 }
 
 /* A record's four bytes on a listed state, under an admitted table. */
-static inline uint8_t judge_record(munasirel_state *state, const uint16_t table[LIMITS], const uint8_t record[4])
+static inline uint8_t judge_record(munasirel_state *state, const uint16_t table[ENTRIES], const uint8_t record[4])
 {
     uint8_t code;
     uint16_t amount;

@@ -54,7 +54,7 @@ static const char *in_words(uint8_t number)
     case MUNASIREL_WRONG_BOX:
         return "a request with the box on the wrong side";
     case MUNASIREL_TOO_EARLY:
-        return "the clutch asked for too early";
+        return "too early for the clutch";
     case MUNASIREL_TOO_LATE:
         return "taken too late";
     case MUNASIREL_PAST_PHASE_LIMIT:

@@ -29,7 +29,7 @@ enum {
     MUNASIREL_BAD_AMOUNT = 6,           /* the middle byte or the amount is wrong */
     MUNASIREL_NOT_ALLOWED = 7,          /* phase or stage does not allow the step, or the state is none that is listed */
     MUNASIREL_WRONG_BOX = 8,            /* at rest, but the box is on the wrong side */
-    MUNASIREL_TOO_EARLY = 9,            /* the clutch is asked for too early */
+    MUNASIREL_TOO_EARLY = 9,            /* the clutch is asked for, or is good or failed, too early */
     MUNASIREL_TOO_LATE = 10,            /* taken too late */
     MUNASIREL_PAST_PHASE_LIMIT = 11,    /* a tick past the phase limit */
     MUNASIREL_PAST_STAGE_LIMIT = 12,    /* a tick past the channel or device limit */
@@ -42,12 +42,13 @@ enum {
 
 /* How far over: the excess is the milliseconds by which a record is too early or past the limit. It is at least 1 with the numbers 9
  * to 13, and 0 with every other, MUNASIREL_ACCEPTED among them:
- *    9   phase time + DE - clock; DE and EX are those of the engine's order
+ *    9   phase time + DE - clock, where the clutch is asked for; DE and EX are those of the engine's order
+ *        stage time + delay - clock, where it is good or failed; the delay is the plain one for good, the error one for failed
  *   10   clock - (phase time + EX)
  *   11   new clock - (phase time + phase limit)
  *   12   new clock - (stage time + channel or device limit), also where the tick passes the phase limit
  *   13   clock + amount - 4,294,967,295
- * Nothing wraps: with 9, on a state whose phase time lies far ahead of its clock, it can pass 32 bits. */
+ * Nothing wraps: with 9, on a state whose phase or stage time lies far ahead of its clock, it can pass 32 bits. */
 
 /* The codes of the thirteen steps. A tick has an amount of 1 to 65,535, every other step the amount 0. A reset is allowed in phase 23
  * alone, enters phase 0 and keeps the box. */
@@ -90,13 +91,25 @@ enum { MUNASIREL_KIND_FROM_NEUTRAL = 1, MUNASIREL_KIND_GEAR_TO_GEAR = 2, MUNASIR
 enum { MUNASIREL_ROUTE_NO_CLUTCH = 0, MUNASIREL_ROUTE_CLUTCH = 1 };
 enum { MUNASIREL_END_OPEN = 0, MUNASIREL_END_DONE = 1, MUNASIREL_END_ERROR = 2 };
 
-/* The most records of a file, the longest good file, room for any line and for the list of any file, in bytes. */
+/* The most records of a file, and of one with 22 entries; the longest good file, room for any line and for the list of any file, in
+ * bytes. */
 #define MUNASIREL_MOST_RECORDS 16372
+#define MUNASIREL_MOST_RECORDS_22 16370
 #define MUNASIREL_LONGEST_FILE 65536
 #define MUNASIREL_LINE_ROOM 64
 #define MUNASIREL_LONGEST_LIST 261960
 
-/* The limit table: eighteen limits in milliseconds, in the order of their entry numbers 0 to 17. */
+/* The limit table: twenty-two entries in milliseconds, in the order of their entry numbers 0 to 21. The last four are the delays of
+ * clutches that can not answer at once. Counted from the delivery of an order to open or to close, the clutch is good no sooner than
+ * the order's plain delay, and failed no sooner than its error delay. Either all four are 0, or both plain delays are at least 1, and
+ * each error delay exceeds its plain one and is at most its device limit.
+ *
+ * What a host has to change that was written for a table of eighteen entries:
+ *   - It is compiled again: the struct has grown from 36 bytes to 44, and goes by value.
+ *   - It sets the four delays to 0 for clutch units as they were. The answers then are what they were, but for a clutch that is good
+ *     or failed on a state whose stage time lies ahead of its clock: that is refused with 9. No list of records leads there.
+ *   - Files of eighteen entries or none are read with four delays of 0, and a table with four delays of 0 is written as eighteen
+ *     entries, as it was. A host that looks into files itself finds 22 entries where there are delays, and the records behind them. */
 typedef struct munasirel_limits {
     uint16_t channel_dl;
     uint16_t engine_sync_dl;
@@ -116,6 +129,10 @@ typedef struct munasirel_limits {
     uint16_t release_dl;
     uint16_t close_clutch_dl;
     uint16_t change_dl;
+    uint16_t clutch_open_de;        /* the plain delay of an open order */
+    uint16_t error_clutch_open_de;  /* its error delay */
+    uint16_t clutch_close_de;       /* the plain delay of a close order */
+    uint16_t error_clutch_close_de; /* its error delay */
 } munasirel_limits;
 
 /* The state of one vehicle's judge. At the start every field is 0. A call may change the padding bytes, so compare states field by
@@ -179,13 +196,17 @@ uint8_t munasirel_judge(const uint8_t *file, size_t file_length);
 munasirel_judged munasirel_verdict(const uint8_t *file, size_t file_length);
 
 /* Tests a limit table.
- * Returns 0 where the table is admitted, or the number of the first rule that it breaks, 1 to 15. */
+ * Returns 0 where the table is admitted, or the number of the first rule that it breaks, 1 to 16. */
 uint8_t munasirel_admit(munasirel_limits table);
+
+/* The house's limit table, for the clutch unit that reports open before its plates part.
+ * Returns the default table with the delays 20, 60, 20 and 60. */
+munasirel_limits munasirel_house(void);
 
 /* The limit table of a step file.
  *   file, file_length   the file's bytes
- * Returns the eighteen entries where the header says 18 and they are there, else the default table; whether the file is good is not
- * looked at. With a length of 0 it is a way to get the default table. */
+ * Returns the entries where the header says 18 or 22 and they are there, with four delays of 0 behind eighteen; else the default
+ * table, whose delays are 0 too. Whether the file is good is not looked at. With a length of 0 it is a way to get the default table. */
 munasirel_limits munasirel_table(const uint8_t *file, size_t file_length);
 
 /* Lays the line of a file's verdict into a buffer: the word accepted, refused or unread, then the records accepted, the number that
@@ -207,7 +228,7 @@ uint8_t munasirel_line(const uint8_t *file, size_t file_length, uint8_t *out, si
 uint8_t munasirel_join(uint8_t *buffer, size_t buffer_length, size_t *held, size_t offset, const uint8_t *part, size_t part_length);
 
 /* Writes a step file.
- *   table                     the table to write
+ *   table                     the table to write: as eighteen entries where its four delays are 0, else as twenty-two
  *   with_table                0 for a file without a table, to be judged under the default; then table is not looked at
  *   codes, codes_length       the steps' codes
  *   amounts, amounts_length   the steps' amounts; both lengths count elements
@@ -215,9 +236,10 @@ uint8_t munasirel_join(uint8_t *buffer, size_t buffer_length, size_t *held, size
  *   length                    is set to the file's length, or to 0 where it is refused
  *   index                     is set to the index of the wrong record with 5 and 6, else to 0
  *   rule                      is set to the number of the broken rule with 4, else to 0
- * Returns 0, or 3 for unequally many codes and amounts, 2 for more than 16,372 records, 4 for a table that is not admitted, 5 or 6
- * for the first record with a wrong code or amount, or 15 where the file does not fit, tested in this order. A refused call changes
- * no byte of out. Whether the steps are allowed one after the other is not tested: that is for the judge. */
+ * Returns 0, or 3 for unequally many codes and amounts, 2 for more than 16,372 records, or than 16,370 where the table is to be
+ * written as twenty-two entries, 4 for a table that is not admitted, 5 or 6 for the first record with a wrong code or amount, or 15
+ * where the file does not fit, tested in this order. A refused call changes no byte of out. Whether the steps are allowed one after
+ * the other is not tested: that is for the judge. */
 uint8_t munasirel_write(munasirel_limits table, uint8_t with_table, const uint8_t *codes, size_t codes_length,
                         const uint32_t *amounts, size_t amounts_length, uint8_t *out, size_t out_length, size_t *length,
                         size_t *index, uint8_t *rule);
@@ -272,7 +294,8 @@ munasirel_fetched munasirel_fetch(const uint8_t *list, size_t list_length, size_
  * Returns the number 0 and the length of the longer list; or, tested in this order,
  *   15 where held exceeds list_length,
  *   1, 2 or 3 where the held bytes are not a list, as munasirel_fetch has it,
- *   2 where there would be more than 16,372 records, and where the list has more shifts than count,
+ *   2 where there would be more than 16,372 records, or than 16,370 where the table has a delay that is not 0, and where the list
+ *     has more shifts than count,
  *   4 where the table is not admitted, with the rule, also where there is no new record,
  *   14 where state and list do not fit. In phases 1 to 21 they fit where the last entry is open, its last record is count - 1, its
  *      request time is the state's, and its age is the state's clock less that, or 0 where that would be below 0. In every other
@@ -295,10 +318,12 @@ munasirel_listed munasirel_extend(uint8_t *list, size_t list_length, size_t held
 #define MUNASIREL_HOLDS(fact) _Static_assert(fact, #fact)
 #endif
 MUNASIREL_HOLDS(sizeof(size_t) == 8);
-MUNASIREL_HOLDS(sizeof(munasirel_limits) == 36);
+MUNASIREL_HOLDS(sizeof(munasirel_limits) == 44);
 MUNASIREL_HOLDS(offsetof(munasirel_limits, channel_dl) == 0);
 MUNASIREL_HOLDS(offsetof(munasirel_limits, sync_dl) == 18);
 MUNASIREL_HOLDS(offsetof(munasirel_limits, change_dl) == 34);
+MUNASIREL_HOLDS(offsetof(munasirel_limits, clutch_open_de) == 36);
+MUNASIREL_HOLDS(offsetof(munasirel_limits, error_clutch_close_de) == 42);
 MUNASIREL_HOLDS(sizeof(munasirel_state) == 28);
 MUNASIREL_HOLDS(offsetof(munasirel_state, clock) == 0);
 MUNASIREL_HOLDS(offsetof(munasirel_state, gear_box) == 4);
@@ -331,6 +356,8 @@ MUNASIREL_HOLDS(offsetof(munasirel_listed, length) == 24);
 MUNASIREL_HOLDS(sizeof(munasirel_fetched) == 20);
 MUNASIREL_HOLDS(offsetof(munasirel_fetched, number) == 0);
 MUNASIREL_HOLDS(offsetof(munasirel_fetched, shift) == 4);
+MUNASIREL_HOLDS(MUNASIREL_LONGEST_FILE == 12 + 2 * 18 + 4 * MUNASIREL_MOST_RECORDS);
+MUNASIREL_HOLDS(MUNASIREL_LONGEST_FILE == 12 + 2 * 22 + 4 * MUNASIREL_MOST_RECORDS_22);
 MUNASIREL_HOLDS(MUNASIREL_LONGEST_LIST == 8 + 16 * MUNASIREL_MOST_RECORDS);
 #undef MUNASIREL_HOLDS
 

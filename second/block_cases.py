@@ -14,7 +14,7 @@ from rules import (
 )
 from search import first_found
 from step_cases import aimed_steps, aimed_tick, allowing, free_state, limits, past_both, refused_step, unlisted
-from tables import any_table, broken_table, edge_tables, good_table
+from tables import RULES, any_table, broken_table, edge_tables, good_table
 from walks import ROUNDS, any_walk, lead, mixed, states, timed
 
 # Most blocks are not longer.
@@ -104,7 +104,7 @@ def every_excess(chance):
 
 def every_table(chance):
     """Tables at the edge of each rule, over a record that reads or does not; bad ones without a record."""
-    for rule in range(1, 16):
+    for rule in RULES:
         broken, kept, _ = edge_tables(chance, rule)
         code = chance.choice(LISTED)
         for first in (packed_steps([(code, good_amount(chance, code))]), *unreadable_records(chance, code)):

@@ -6,15 +6,18 @@ from typing import Dict, NamedTuple, Sequence, Set
 import extend_coverage
 import list_coverage
 import m9
+from delay_coverage import ANSWERS, DELAY_GRIDS, SIZES, delay_marks
 from files import NO_ROOM, RECORD, block, fours, judge, judged, line, read, record
 from places import HOW, PLACES, place_of
 from records import LISTED, UNLISTED
 from rules import (
-    ASK_CLUTCH, BOXES, DEVICE_PHASES, ENGINE_PHASES, ERROR, GOOD, IN_GEAR, NEUTRAL, NO_SUCH_CODE, NOT_ADMITTED,
-    NOT_ALLOWED, ORDERS, PAST_CLOCK, PAST_PHASE_LIMIT, PAST_STAGE_LIMIT, PHASES, RELEASE, REQUESTS, RESET, SENT, SET,
-    START, STAGES, SYNC, TAKE, TICK, TOO_EARLY, TOO_LATE, WORKING, WRONG_AMOUNT, WRONG_BOX, ZERO_TORQUE, broken_rule,
-    excesses, slacks,
+    ASK_CLUTCH, BOXES, DEVICE_FAILED, DEVICE_GOOD, DEVICE_PHASES, ENGINE_PHASES, ERROR, GOOD, IN_GEAR, NEUTRAL,
+    NO_SUCH_CODE, NOT_ADMITTED, NOT_ALLOWED, ORDERS, PAST_CLOCK, PAST_PHASE_LIMIT, PAST_STAGE_LIMIT, PHASES, RELEASE,
+    REQUESTS, RESET, SENT, SET, START, STAGES, SYNC, TAKE, TICK, TOO_EARLY, TOO_LATE, WORKING, WRONG_AMOUNT, WRONG_BOX,
+    ZERO_TORQUE, broken_rule, excesses, slacks,
 )
+from settlements import DELAY_GUARDS
+from tables import RULES
 
 # No walk takes too late: rules 2 and 3 see to that. No file holds ticks enough to pass the last clock.
 NEVER_IN_A_FILE = {TOO_LATE, PAST_CLOCK}
@@ -24,7 +27,7 @@ GIVEN_NAMES = tuple(f"({name})" for name in STAGE_NAMES)
 ORDER_NAMES = tuple(order.name for order in ORDERS)
 # How many numbers are listed in these fields of a state.
 LISTED_NUMBERS = {"phase": ERROR + 1, "stage": len(STAGES), "box": len(BOXES)}
-ALL_RULES = set(range(1, 16))
+ALL_RULES = set(RULES)
 OTHER = "other"
 NO_CODES = (*UNLISTED, OTHER)
 CODES = (*LISTED, *NO_CODES)
@@ -36,8 +39,6 @@ RESET_NUMBERS = 0, WRONG_AMOUNT, NOT_ALLOWED
 WAS_RESET = "reset"
 ERROR_COLUMNS = (*BOX_NAMES, WAS_RESET, *(f"then {code}" for code in REQUESTS))
 KEPT, PASSED, REFUSED = "just kept", "passed by one", "refused by it"
-# The sizes of an excess, each with the largest that has it.
-SIZES = {"1": 1, "16 bits": 2**16 - 1, "32 bits": 2**32 - 1, "64 bits": 2**64 - 1}
 STAGE_LIMITS = {SENT: "channel, sent", WORKING: "device", GOOD: "channel, good"}
 LESS, MORE = "less", "more"
 # The functions that are given a state, and those that begin at the start.
@@ -63,7 +64,8 @@ def step_numbers(code):
     """The numbers that a step can give on any state and table."""
     if code in NO_CODES:
         return {4, 5}
-    own = {8} if code in REQUESTS else {TAKE: {10}, ASK_CLUTCH: {9}, TICK: {11, 12, 13}}.get(code, set())
+    own = {8} if code in REQUESTS else {
+        TAKE: {10}, ASK_CLUTCH: {9}, DEVICE_GOOD: {9}, DEVICE_FAILED: {9}, TICK: {11, 12, 13}}.get(code, set())
     return {0, 4, 6, 7} | own
 
 
@@ -86,7 +88,9 @@ def numbers_by_event():
     """The rows of a grid of events and numbers; no record takes too late."""
     own = {code: {WRONG_BOX} for code in REQUESTS}
     own.update({ASK_CLUTCH: {TOO_EARLY}, TICK: {PAST_PHASE_LIMIT, PAST_STAGE_LIMIT}})
-    return {name: {0} | own.get(code, set()) for code, names in m9.NAMES_BY_CODE.items() for name in names}
+    delayed = {event for event, *_ in DELAY_GUARDS}
+    return {name: {0} | own.get(code, set()) | ({TOO_EARLY} if name in delayed else set())
+            for code, names in m9.NAMES_BY_CODE.items() for name in names}
 
 
 def numbers_by_code(numbers):
@@ -180,7 +184,7 @@ GRIDS = {
         "extend": {*range(16)},
         "extend, held": {15},
     }),
-    "rules": Grid("rules that each function gave, 0 for an admitted table, and the nearest tables", range(16), {
+    "rules": Grid("rules that each function gave, 0 for an admitted table, and the nearest tables", range(17), {
         "admit": {0} | ALL_RULES,
         "step": ALL_RULES,
         "advance": ALL_RULES,
@@ -289,7 +293,8 @@ GRIDS = {
         STAGE_NAMES,
         {phase: reachable(phase) for phase in range(ERROR + 1)},
     ),
-    **{name: Grid(*grid) for name, grid in {**list_coverage.LIST_GRIDS, **extend_coverage.EXTEND_GRIDS}.items()},
+    **{name: Grid(*grid) for grids in (list_coverage.LIST_GRIDS, extend_coverage.EXTEND_GRIDS, DELAY_GRIDS)
+       for name, grid in grids.items()},
 }
 
 
@@ -301,8 +306,8 @@ def limit_name(refusal, stage):
 
 
 def limit_marks(grid, table, state, code, amount, number):
-    """The limits that an accepted step just keeps, or the one that a refused step passes by one."""
-    if state.phase not in PHASES or 0 < number < TOO_EARLY:
+    """The limits that an accepted step just keeps, or the one that a refused step passes by one; but for delays."""
+    if state.phase not in PHASES or 0 < number < TOO_EARLY or code in ANSWERS:
         return
     for refusal, excess in excesses(table, state, code, amount):
         if (number, excess) in ((0, 0), (refusal, 1)):
@@ -573,7 +578,7 @@ MARKS = {
 
 def marks(worked):
     """What a case that is worked out covers, as cells: a grid's name, a row and a column."""
-    return set(MARKS[worked.name](worked.answer, *worked.parts))
+    return {*MARKS[worked.name](worked.answer, *worked.parts), *delay_marks(worked.name, worked.answer, *worked.parts)}
 
 
 def possible_cells():

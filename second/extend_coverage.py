@@ -1,6 +1,6 @@
 """What a comparison covers of lists that are extended: grids, as a title, columns and rows, and the marks of a case."""
 
-from files import MOST_RECORDS, RECORD, record
+from files import RECORD, k_written, most_records, record
 from list_coverage import (
     CUT, END_NAMES, EXACT, GONE_ON, IN_DONE, IN_ERROR, KEPT, LONGER, NEW, ONE_SHORT, SHIFTS, SHORTER, SIZES, STAYED,
     WENT_ON, WRAPS, damage_marks, foreign_marks, open_marks, room, shift_marks, size_of, tick_marks,
@@ -27,7 +27,7 @@ BEFORE, AT, AFTER = "clock before the request", "clock at the request", "clock a
 NO_RECORD, ACCEPTED, IS_REFUSED, TOO_MANY = "no record", "accepted", "refused", "too many"
 LEFT_OPEN, WAITED, ASKED, THEN_NEW = "left open", "engine only waits", "clutch asked for", "then new shifts"
 BECAME = NO_RECORD, LEFT_OPEN, *END_NAMES[1:], WAITED, ASKED, THEN_NEW
-IN_ALL, ONE_TOO_MANY = "16,372 in all", "16,373 in all"
+IN_ALL, ONE_TOO_MANY = "the most in all", "one more in all"
 
 
 def later_reasons(reason):
@@ -115,7 +115,7 @@ def reasons(table, state, held, count, records, buffer):
         "short": held < HEAD.size,
         "offset": offset != FIRST_ENTRY,
         "length": len(buffer) >= HEAD.size and held != FIRST_ENTRY + ENTRY.size * stated,
-        "records": count + len(records) // RECORD.size > MOST_RECORDS,
+        "records": count + len(records) // RECORD.size > most_records(k_written(table)),
         "shifts": stated > count,
         "table": broken_rule(table) > 0,
         "fit": held <= len(buffer) and not fits(state, count, last_of(buffer[:held])),
@@ -158,11 +158,11 @@ def fit_marks(state, count, last):
         yield "fits", EMPTY if last is None else JUST_BELOW if last.last == count - 1 else BELOW, where
 
 
-def count_row(count, new):
-    """The row of so many records before so many new ones, or None."""
-    in_all = count + new
-    if in_all >= MOST_RECORDS:
-        return {MOST_RECORDS: IN_ALL, MOST_RECORDS + 1: ONE_TOO_MANY}.get(in_all, WRAPS if in_all >= 2**32 else None)
+def count_row(table, count, new):
+    """The row of so many records before so many new ones under a table, or None."""
+    in_all, most = count + new, most_records(k_written(table))
+    if in_all >= most:
+        return {most: IN_ALL, most + 1: ONE_TOO_MANY}.get(in_all, WRAPS if in_all >= 2**32 else None)
     return "0" if not count else "8 bits" if count < 2**8 else "16 bits"
 
 
@@ -215,7 +215,7 @@ def extend_marks(answer, table, state, held, count, records, buffer):
     if first == "fit":
         yield from misfit_marks(state, count, last_entry(buffer[:held]))
     outcome = {None: ACCEPTED, "record": IS_REFUSED, "records": TOO_MANY}.get(first)
-    row = count_row(count, whole)
+    row = count_row(table, count, whole)
     if outcome and row:
         yield "counts", row, outcome
     if outcome in (ACCEPTED, IS_REFUSED):

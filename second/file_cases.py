@@ -2,10 +2,12 @@
 
 from buffers import NO_BUFFER, buffer_for, with_other_byte
 from corpus import LONGEST_FIELD, case_of
-from files import HEADER, MOST_RECORDS, RECORD, Header, file_of, header_of, line, record_offset
+from files import (
+    ENTRY_COUNTS, HEADER, MOST_RECORDS, RECORD, Header, file_of, header_of, line, most_records, record_offset,
+)
 from records import LISTED, any_record, bad_records, packed_steps, tick_amount, unlisted_codes
 from rules import DEFAULT, FROM_NEUTRAL, LONGEST_TICK, RESET, TICK, forbidden, latest_clocks
-from tables import admitted_table, any_table, broken_table, edge_tables, good_table
+from tables import RULES, admitted_table, any_table, broken_table, edge_tables, good_table
 from walks import (
     FINISHED, ROUNDS, SHIFTS, SLOW, any_walk, edges, lead, mixed, states, timed, walks_over, walks_through_errors,
 )
@@ -124,23 +126,25 @@ def wrong_headers(chance, file):
     for place in range(HEADER.size):
         yield with_other_byte(chance, file, place)
     good = header_of(file)
+    most = most_records(good.k)
+    others = [k for k in ENTRY_COUNTS if k != good.k]
     wrong = Header(
         table_offset=(0, 11, 13, 48, 12 + 2**15),
-        k=(18 - good.k, 1, 17, 19, 22, 36, good.k + 2**15, 2**16 - 1),
-        record_offset=(0, 60 - good.record_offset, good.record_offset - 1, good.record_offset + 1, 2**32 - 1),
-        n=(good.n + 1, MOST_RECORDS, MOST_RECORDS + 1, good.n + 2**16, good.n + 2**30, 2**32 - 1),
+        k=(*others, 1, 17, 19, 21, 23, 36, good.k + 2**15, 2**16 - 1),
+        record_offset=(0, *map(record_offset, others), good.record_offset - 1, good.record_offset + 1, 2**32 - 1),
+        n=(good.n + 1, most, most + 1, good.n + 2**16, good.n + 2**30, 2**32 - 1),
     )
     for field, values in wrong._asdict().items():
         for value in values:
             yield with_header(file, **{field: value})
-    for k in (1, 17, 19, 36, 256, 256 + 18):
+    for k in (1, 17, 19, 20, 21, 23, 36, 256, 256 + 18, 256 + 22):
         fields = good._replace(k=k, record_offset=record_offset(k))
         yield HEADER.pack(*fields) + chance.randbytes(2 * k) + file[good.record_offset:]
 
 
 def wrong_lengths(chance, file):
     """The file cut and lengthened."""
-    for length in (*range(HEADER.size + 1), 47, 48, 49, len(file) - 4, len(file) - 2, len(file) - 1):
+    for length in (*range(HEADER.size + 1), 47, 48, 49, 55, 56, 57, len(file) - 4, len(file) - 2, len(file) - 1):
         if length < len(file):
             yield file[:length]
     for more in (1, 2, 4, 100):
@@ -156,7 +160,7 @@ def damaged_files(chance):
             yield from chance.sample(list(all_three(chance, damaged)), 2)
     for table in (admitted_table(chance), broken_table(chance)):
         yield from all_three(chance, file_of(table, b""))
-    for rule in range(1, 16):
+    for rule in RULES:
         for table in edge_tables(chance, rule):
             yield from all_three(chance, file_with(chance, table, any_walk(chance, DEFAULT)))
     file = file_with(chance, broken_table(chance), bytes(4))

@@ -3,15 +3,18 @@
 import struct
 from typing import NamedTuple
 
-from rules import DEFAULT, NOT_ADMITTED, START, Table, admitted_step, broken_rule, step, unreadable
+from rules import DEFAULT, LIMITS, NOT_ADMITTED, START, Table, admitted_step, broken_rule, has_delays, step, unreadable
 
 # The numbers for what files, parts and buffers are refused for.
 TOO_SHORT, WRONG_HEADER, WRONG_LENGTH, BEYOND_HELD, NO_ROOM, OVERLAP_DIFFERS = 1, 2, 3, 14, 15, 16
 
 HEADER = struct.Struct("<HHII")
-ENTRIES = struct.Struct("<18H")
+ENTRIES = struct.Struct("<22H")
 RECORD = struct.Struct("<BBH")
-MOST_RECORDS = 16_372
+# How many entries a file has without delays and with them, and the most records without them and with them.
+WITHOUT_DELAYS, WITH_DELAYS = LIMITS, len(Table._fields)
+ENTRY_COUNTS = 0, WITHOUT_DELAYS, WITH_DELAYS
+MOST_RECORDS, MOST_WITH_DELAYS = 16_372, 16_370
 
 
 class Header(NamedTuple):
@@ -33,11 +36,27 @@ def record_offset(k):
     return HEADER.size + 2 * k
 
 
+def most_records(k):
+    """The most records behind k entries."""
+    return MOST_WITH_DELAYS if k == WITH_DELAYS else MOST_RECORDS
+
+
+def k_written(table):
+    """How many entries are written of a table, or of None for the wish for none."""
+    if table is None:
+        return 0
+    return WITH_DELAYS if has_delays(table) else WITHOUT_DELAYS
+
+
+def file_with_entries(k, table, records):
+    """The file of the first k entries of a table and record bytes."""
+    entries = ENTRIES.pack(*table)[:2 * k]
+    return HEADER.pack(HEADER.size, k, record_offset(k), len(records) // RECORD.size) + entries + records
+
+
 def file_of(table, records):
     """The file of a table, or None for the wish for none, and record bytes."""
-    entries = b"" if table is None else ENTRIES.pack(*table)
-    k = len(entries) // 2
-    return HEADER.pack(HEADER.size, k, record_offset(k), len(records) // RECORD.size) + entries + records
+    return file_with_entries(k_written(table), table or DEFAULT, records)
 
 
 def damage(file):
@@ -45,15 +64,17 @@ def damage(file):
     if len(file) < HEADER.size:
         return TOO_SHORT
     table_offset, k, offset, n = header_of(file)
-    if table_offset != HEADER.size or k not in (0, 18) or offset != record_offset(k) or n > MOST_RECORDS:
+    if table_offset != HEADER.size or k not in ENTRY_COUNTS or offset != record_offset(k) or n > most_records(k):
         return WRONG_HEADER
     return 0 if len(file) == offset + RECORD.size * n else WRONG_LENGTH
 
 
 def table_of(file):
-    """The table of any bytes: the entries behind the header if it says 18 and they are all there, else the default."""
-    if len(file) >= record_offset(18) and header_of(file).k == 18:
-        return Table(*ENTRIES.unpack_from(file, HEADER.size))
+    """The table of any bytes: the entries behind the header if they are all there, without delays if it says 18."""
+    k = header_of(file).k if len(file) >= HEADER.size else 0
+    entries = file[HEADER.size:record_offset(k)]
+    if k in ENTRY_COUNTS[1:] and len(entries) == 2 * k:
+        return Table(*ENTRIES.unpack(entries + bytes(ENTRIES.size - len(entries))))
     return DEFAULT
 
 
@@ -141,7 +162,7 @@ def write(table, codes, amounts, buffer):
     """The writer, with None as the wish for no table: number, rule, index, length and the buffer after."""
     if len(codes) != len(amounts):
         return WRONG_LENGTH, 0, 0, 0, buffer
-    if len(codes) > MOST_RECORDS:
+    if len(codes) > most_records(k_written(table)):
         return WRONG_HEADER, 0, 0, 0, buffer
     rule = 0 if table is None else broken_rule(table)
     if rule:

@@ -9,7 +9,7 @@ from files import MOST_RECORDS, file_of, judge
 from records import packed_steps
 from rules import DEFAULT, FROM_NEUTRAL, GEAR_TO_GEAR, LONGEST_TICK, PAST_STAGE_LIMIT, REQUESTS, START, TICK, TO_NEUTRAL
 from shifts import ENTRY, HEAD, build
-from tables import admitted_table, broken_table, edge_tables, good_table
+from tables import RULES, admitted_table, broken_table, edge_tables, good_table
 from walks import (
     FINISHED, ROUNDS, SHIFTS, SLOW, WAYS_OVER, any_walk, box_after, lead, mixed, requests_at, states, steps_over,
     timed, to_rest, walks_over,
@@ -127,7 +127,7 @@ def every_damage(chance):
             yield list_case(chance, damaged, 24)
         for damaged in (b"", file[:11], file[:-1], file + b"\0", bytes(12)):
             yield from refused_cases(chance, damaged)
-    for rule in range(1, 16):
+    for rule in RULES:
         broken, kept, _ = edge_tables(chance, rule)
         yield from refused_cases(chance, file_with(chance, broken, any_walk(chance, DEFAULT)))
         yield list_case(chance, file_with(chance, kept, any_walk(chance, DEFAULT)))

@@ -10,7 +10,7 @@ from rules import (
     PAST_STAGE_LIMIT, RAISE_ERROR, RESET, SENT, TAKE, TICK, TO_NEUTRAL, TOO_EARLY, TOO_LATE, WAITING, WORKING,
     WRONG_BOX, Table, broken_rule, unreadable,
 )
-from settlements import ADDED, OWN_EVENT, REQUESTED, RESETTING, SETTLED_ACTIONS, SETTLEMENTS
+from settlements import OWN_EVENT, RESETTING, SETTLED
 
 # The manual's names of limits, and the entries of the table that they are.
 LIMITS = {**{name: name for name in Table._fields}, "OpenClutch_Sync_DE": "Sync_DE", "OpenClutch_Zero_DE": "Zero_DE"}
@@ -62,12 +62,17 @@ def action_of(label, printed, stands, why=""):
 
 def clauses_of(name, text):
     """The guards and actions of an event: label, printed form, what stands in its place, and why if that is another."""
-    settled = {settlement.label: settlement for settlement in SETTLEMENTS + SETTLED_ACTIONS if settlement.event == name}
+    settled = {settlement.label: settlement for settlement in SETTLED if settlement.event == name}
     for label, printed in labelled(text):
         *_, stands, why = settled.pop(label, (printed, ""))
         yield label, printed, stands, why
     for label, (*_, stands, why) in settled.items():
         yield label, None, stands, why
+
+
+def is_action(_, printed, stands, __):
+    """Whether a clause, by its label, its printed form, what stands in its place and why, is an action."""
+    return " := " in (stands or printed)
 
 
 def event_of(text):
@@ -76,8 +81,8 @@ def event_of(text):
     found = list(clauses_of(name, clauses))
     return Event(
         name,
-        tuple(Guard(*clause) for clause in found if clause[0] == ADDED or clause[0].startswith("grd")),
-        tuple(action_of(*clause) for clause in found if clause[0] == REQUESTED or clause[0].startswith("act")),
+        tuple(Guard(*clause) for clause in found if not is_action(*clause)),
+        tuple(action_of(*clause) for clause in found if is_action(*clause)),
     )
 
 

@@ -109,7 +109,7 @@ def mark_of(guard):
     if not guard.why:
         return ""
     if guard.printed is None:
-        return "01: not printed"
+        return f"{guard.label}: not printed"
     return f"01: printed {' '.join(sorted(names_in(guard.printed) - names_in(guard.stands)))}"
 
 
@@ -455,7 +455,7 @@ def code_event(name, body):
     for piece, comment in commented(body, "//"):
         label = label_in(comment)
         piece = re.sub(r"^(let enabled =|&) ", "", piece).rstrip(";").strip()
-        if label.startswith("act") or label == REQUESTED:
+        if label.startswith("act") or label == REQUESTED and not piece.startswith("let number "):
             found.append((label, marked(matched(CODE_ACTIONS, piece) if piece else "nothing", comment)))
         elif piece.startswith("let excess "):
             found.append(over_read(CODE_OVERS, piece, comment))

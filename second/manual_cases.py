@@ -9,7 +9,7 @@ from rules import (
     ASK_CLUTCH, DEFAULT, DELIVER, DEVICE_FAILED, DEVICE_GOOD, ENGINE_WAITS, FINISH, GOOD, LONGEST_TICK, RAISE_ERROR,
     REQUESTS, RESET, SENT, TAKE, TICK, WORKING,
 )
-from tables import admitted_table, any_table, broken_table, edge_tables, good_table
+from tables import RULES, admitted_table, any_table, broken_table, edge_tables, good_table
 from walks import SHIFTS, SLOW, any_walk, edges, lead, mixed, states, timed, walks_over, walks_through_errors
 
 # Lists are not longer: the programs that answer them may run under an emulator.
@@ -91,7 +91,7 @@ def every_error(chance):
 
 def every_table(chance):
     """Tables at the edge of each rule; tables that are not admitted without a record, and with one of each code."""
-    for rule in range(1, 16):
+    for rule in RULES:
         broken, kept, _ = edge_tables(chance, rule)
         for table in (broken, kept):
             yield manual_case(table, any_walk(chance, DEFAULT)[:MOST_STEPS], [(TICK, 1)])

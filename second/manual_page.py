@@ -11,11 +11,10 @@ from pages import NotMade, table_of
 from program import ROOT, printed
 from records import packed_steps
 from rules import DEFAULT, FINISH, TICK
-from settlements import ADDED, REQUESTED, SETTLED_ACTIONS, SETTLEMENTS
+from settlements import ADDED, DELAY_GUARDS, REQUESTED, SETTLED, SETTLEMENTS
 from walks import timed
 
 PAGE = ROOT / "docs" / "MANUAL.md"
-SETTLED = SETTLEMENTS + SETTLED_ACTIONS
 
 
 def run_text(steps):
@@ -29,27 +28,33 @@ def code_of(event):
     return code
 
 
-def what_changes(settlement, states):
-    """What a settlement that is off changes on the states reached under the default table, in words."""
-    table, ticks = reached.SEARCHED["default"]
-    change = reached.first_change(settlement, table, states)
+def what_changes(settlement, found):
+    """What a settlement that is off changes on the states reached under the default table, in words.
+
+    A delay is looked for under the default table with the house values: it is 0 in the other.
+    """
+    name = "house" if settlement in DELAY_GUARDS else "default"
+    table, ticks = reached.SEARCHED[name]
+    change = reached.first_change(settlement, table, found[name])
     if not change:
         return "nothing"
     if change.printed == change.settled:
         return f"{run_text(change.steps)}: accepted either way, as printed with isNeu as before"
     said = f"{run_text(change.steps)}: as printed {change.printed or 'accepted'}, here {change.settled or 'accepted'}"
+    if settlement in DELAY_GUARDS:
+        said = f"with the house values {said}"
     if not change.accepted():
         said += "; what is accepted is the same"
     end = reached.stop(settlement, table, ticks)
     return f"{said}; stuck after {run_text(end)}" if end else said
 
 
-def settled_row(settlement, states):
+def settled_row(settlement, found):
     """The row of a settlement."""
     event = EVENTS[settlement.event]
     clause, = (clause for clause in event.guards + event.actions if clause.label == settlement.label)
     before, here = (f"`{formula}`" if formula else "nothing" for formula in (clause.printed, clause.stands))
-    return f"{settlement.event}, {label_text(clause)}", before, here, clause.why, what_changes(settlement, states)
+    return f"{settlement.event}, {label_text(clause)}", before, here, clause.why, what_changes(settlement, found)
 
 
 def searched_text(found):
@@ -62,9 +67,11 @@ def searched_text(found):
     errors = sum(each[flag] for each in variables if M9.chosen(each, FINISH) for flag in error_flags)
     return (
         f"Searched were {len(found['default'])} states under the default table, where {numbers['default']} of the "
-        f"{len(SETTLED)} change an answer, and {len(found['small'])} under a table with small limits, where "
-        f"{numbers['small']} do; states that can do the same now count as one. In all of them at most {enabled} event "
-        f"of a step has its guards on flags hold, and where FINAL's guard holds, {errors} error flags are up."
+        f"{len(SETTLED)} change an answer, {len(found['small'])} under a table with small limits, where "
+        f"{numbers['small']} do, and {len(found['house'])} under the default table with the house values of the "
+        f"clutches' delays, where {numbers['house']} do; states that can do the same now count as one. In all of them "
+        f"at most {enabled} event of a step has its guards on flags hold, and where FINAL's guard holds, "
+        f"{errors} error flags are up."
     )
 
 
@@ -72,7 +79,7 @@ def settled_part():
     """The guards and actions that stand otherwise than printed, and what that changes."""
     found = {name: list(reached.reached(M9, *search)) for name, search in reached.SEARCHED.items()}
     head = "event and label", "printed", "stands here", "why", "on reached states, with this one as printed"
-    rows = [settled_row(settlement, found["default"]) for settlement in SETTLED]
+    rows = [settled_row(settlement, found) for settlement in SETTLED]
     return f"{table_of(head, rows)}\n\n{searched_text(found)}"
 
 

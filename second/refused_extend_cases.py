@@ -7,7 +7,7 @@ from coverage import STAGE_LIMITS, later_numbers, step_numbers
 from extend_coverage import EXTEND_GRIDS
 from extensions import Given, cut_walk, extend_case, on_state
 from fetch_cases import OFFSETS, OTHER_COUNTS
-from files import MOST_RECORDS, RECORD
+from files import MOST_RECORDS, RECORD, k_written, most_records
 from list_cases import shifts_in_a_row
 from list_coverage import OFF
 from records import LISTED, UNLISTED, any_record, packed_pieces, packed_steps
@@ -16,7 +16,7 @@ from rules import (
 )
 from shifts import ENTRY, HEAD, Shift, entries_of
 from step_cases import aimed_steps, aimed_tick, free_state, past_both, unlisted
-from tables import any_table, edge_tables, good_table
+from tables import RULES, any_table, edge_tables, good_table
 from walks import mixed, states, timed
 
 
@@ -49,8 +49,8 @@ def of_count(given, count):
 
 
 def too_many(chance, given):
-    """The count one too large for the records."""
-    return of_count(given, MOST_RECORDS - len(given.records) // RECORD.size + 1)
+    """The count one too large for the records, under its table."""
+    return of_count(given, most_records(k_written(given.table)) - len(given.records) // RECORD.size + 1)
 
 
 def more_shifts(chance, given):
@@ -164,7 +164,7 @@ def every_misfit(chance):
 
 def every_table(chance):
     """Tables at the edge of each rule, with and without a record, on lists that fit and on ones that do not."""
-    for rule in range(1, 16):
+    for rule in RULES:
         broken, kept, _ = edge_tables(chance, rule)
         state = free_state(chance, phase=AT_REST, box=0, clock=chance.randint(0, 2**31))
         for records in (b"", some_records(chance)):

@@ -31,9 +31,16 @@ class Table(NamedTuple):
     Release_DL: int = 250
     CloseClutch_DL: int = 200
     ChangeDL: int = 1500
+    Clutch_Open_DE: int = 0
+    Error_Clutch_Open_DE: int = 0
+    Clutch_Close_DE: int = 0
+    Error_Clutch_Close_DE: int = 0
 
 
 DEFAULT = Table()
+# How many entries there are without the four delays of clutches, and the names of these.
+LIMITS = 18
+DELAYS = Table._fields[LIMITS:]
 
 
 def route_sums(t):
@@ -45,11 +52,28 @@ def route_sums(t):
     return f, n, g1, g2
 
 
+def has_delays(t):
+    """Whether one of the four delays is not 0."""
+    return any(t[LIMITS:])
+
+
+def delay_slacks(t):
+    """By how much each condition of rule 16 on delays that are not all 0 is kept: 0 is just kept, below 0 is broken."""
+    return (
+        t.Clutch_Open_DE - 1,
+        t.Clutch_Close_DE - 1,
+        t.Error_Clutch_Open_DE - t.Clutch_Open_DE - 1,
+        t.Error_Clutch_Close_DE - t.Clutch_Close_DE - 1,
+        t.Clutch_Open_DL - t.Error_Clutch_Open_DE,
+        t.Clutch_Close_DL - t.Error_Clutch_Close_DE,
+    )
+
+
 def slacks(t):
-    """By how much each of the fifteen rules is kept: 0 is just kept, below 0 is broken."""
+    """By how much each of the sixteen rules is kept: 0 is just kept, below 0 is broken. Four zeros keep 16 by 1."""
     both_ways = 2 * t.Channel_DL
     return (
-        min(t) - 1,
+        min(t[:LIMITS]) - 1,
         t.Sync_EX - (both_ways + t.Engine_Sync_DL),
         t.Zero_EX - (both_ways + t.Engine_Zero_DL),
         t.OpenClutch_DL - (both_ways + t.Clutch_Open_DL) - 1,
@@ -61,6 +85,7 @@ def slacks(t):
         t.Sync_DL - t.Sync_DE,
         t.Zero_DL - t.Zero_DE,
         *(t.ChangeDL - route_sum for route_sum in route_sums(t)),
+        min(delay_slacks(t)) if has_delays(t) else 1,
     )
 
 
@@ -90,19 +115,23 @@ AT_REST, DONE, ERROR = 0, 22, 23
 
 
 class Order(NamedTuple):
-    """An order with its limits, as entries of the table; expiry and earliest are the EX and DE of engine orders."""
+    """An order with its limits, as entries of the table: EX and DE are engines', and the delays are clutches'."""
 
     name: str
     device_limit: str
     phase_limit: str
     expiry: Optional[str] = None
     earliest: Optional[str] = None
+    delay: Optional[str] = None
+    error_delay: Optional[str] = None
 
 
 SYNC = Order("sync", "Engine_Sync_DL", "Sync_DL", "Sync_EX", "Sync_DE")
 ZERO_TORQUE = Order("zero torque", "Engine_Zero_DL", "Zero_DL", "Zero_EX", "Zero_DE")
-OPEN = Order("open", "Clutch_Open_DL", "OpenClutch_DL")
-CLOSE = Order("close", "Clutch_Close_DL", "CloseClutch_DL")
+OPEN = Order("open", "Clutch_Open_DL", "OpenClutch_DL",
+             delay="Clutch_Open_DE", error_delay="Error_Clutch_Open_DE")
+CLOSE = Order("close", "Clutch_Close_DL", "CloseClutch_DL",
+              delay="Clutch_Close_DE", error_delay="Error_Clutch_Close_DE")
 SET = Order("set", "Gear_Set_DL", "SetGear_DL")
 RELEASE = Order("release", "Gear_Release_DL", "Release_DL")
 ORDERS = SYNC, ZERO_TORQUE, OPEN, CLOSE, SET, RELEASE
@@ -142,6 +171,7 @@ PHASES = {
 }
 ENGINE_PHASES = {phase for phase, row in PHASES.items() if row.when_asked}
 DEVICE_PHASES = PHASES.keys() - ENGINE_PHASES
+CLUTCH_PHASES = {phase for phase, row in PHASES.items() if row.order.delay}
 BOX_WHEN_TAKEN = {SET: IN_GEAR, RELEASE: NEUTRAL}
 
 FROM_NEUTRAL, GEAR_TO_GEAR, TO_NEUTRAL = 1, 2, 3
@@ -189,16 +219,26 @@ def unreadable(code, amount, middle=0):
     return 0 if middle == 0 and least <= amount <= most else WRONG_AMOUNT
 
 
+def order_of(state):
+    """The order of the state's phase, or None."""
+    return PHASES[state.phase].order if state.phase in PHASES else None
+
+
 def earliest_clock(table, state, code):
-    """The clock that a step may not come before."""
+    """The clock that a step may not come before, or None where there is none."""
+    order = order_of(state)
     if code == ASK_CLUTCH:
-        return state.phase_time + getattr(table, PHASES[state.phase].order.earliest)
-    return 0
+        return state.phase_time + getattr(table, order.earliest)
+    if code == DEVICE_GOOD and order.delay:
+        return state.stage_time + getattr(table, order.delay)
+    if code == DEVICE_FAILED and order.error_delay:
+        return state.stage_time + getattr(table, order.error_delay)
+    return None
 
 
 def latest_clocks(table, state, code):
     """The clocks that a step may not pass, each behind its refusal and in the order of refusals."""
-    order = PHASES[state.phase].order if state.phase in PHASES else None
+    order = order_of(state)
     if code == TAKE and order.expiry:
         return [(TOO_LATE, state.phase_time + getattr(table, order.expiry))]
     if code != TICK:
@@ -215,9 +255,9 @@ def latest_clocks(table, state, code):
 
 def excesses(table, state, code, amount):
     """The milliseconds by which a step is too early or past each limit, each behind its refusal and in that order."""
-    clock = state.clock + amount
-    if code == ASK_CLUTCH:
-        return [(TOO_EARLY, earliest_clock(table, state, code) - clock)]
+    clock, earliest = state.clock + amount, earliest_clock(table, state, code)
+    if earliest is not None:
+        return [(TOO_EARLY, earliest - clock)]
     return [(number, clock - latest) for number, latest in latest_clocks(table, state, code)]
 
 

@@ -2,7 +2,7 @@
 
 from typing import NamedTuple, Optional
 
-# The label of a guard that the manual doesn't print, and of an action.
+# The label of what m9 doesn't print, by the document that adds it: guards of document 01, guards and actions of 02.
 ADDED, REQUESTED = "01", "02"
 
 
@@ -65,6 +65,19 @@ SETTLEMENTS = (
     ),
 )
 
+# A later machine of the manual prints these as grd4, but has both of the closing clutch from Clutch_Request_OpenT.
+OPENS, NOT_OPENED, CLOSES, NOT_CLOSED = (
+    f"request 6: a clutch {answers} no earlier than its {delay} after the order was delivered; m9 has no delay"
+    for answers, delay in (("is open", "delay"), ("fails to open", "error delay"),
+                           ("is closed", "delay"), ("fails to close", "error delay")))
+
+DELAY_GUARDS = (
+    Settlement("Clutch_Open", REQUESTED, "time ≥ Clutch_Request_OpenT + Clutch_Open_DE", OPENS),
+    Settlement("Error_Clutch_Open", REQUESTED, "time ≥ Clutch_Request_OpenT + Error_Clutch_Open_DE", NOT_OPENED),
+    Settlement("Clutch_Close", REQUESTED, "time ≥ Clutch_Request_CloseT + Clutch_Close_DE", CLOSES),
+    Settlement("Error_Clutch_Close", REQUESTED, "time ≥ Clutch_Request_CloseT + Error_Clutch_Close_DE", NOT_CLOSED),
+)
+
 GEAR_SET = "request 2: taking a set order makes the box in gear"
 GEAR_RELEASED = "request 2: taking a release order makes the box neutral"
 NOT_BY_DONE = "request 2: entering 22 no longer touches the box"
@@ -80,6 +93,8 @@ SETTLED_ACTIONS = (
     Settlement("NoNeu_SetGear_ReleasingClutch", REQUESTED, "isNeu := FALSE", GEAR_SET),
     Settlement("NoNeu_SetGear_SettingClutch", REQUESTED, "isNeu := FALSE", GEAR_SET),
 )
+
+SETTLED = SETTLEMENTS + DELAY_GUARDS + SETTLED_ACTIONS
 
 # The event that is not the manual's, written as m9_printed.py writes the manual's, and why it is there.
 OWN_EVENT = """

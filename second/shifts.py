@@ -4,7 +4,8 @@ import struct
 from typing import NamedTuple
 
 from files import (
-    MOST_RECORDS, NO_ROOM, RECORD, TOO_SHORT, WRONG_HEADER, WRONG_LENGTH, block, fours, judge, laid, read, record,
+    NO_ROOM, RECORD, TOO_SHORT, WRONG_HEADER, WRONG_LENGTH, block, fours, judge, k_written, laid, most_records, read,
+    record,
 )
 from rules import ASK_CLUTCH, DONE, ERROR, NOT_ADMITTED, PHASES, REQUESTS, START, admitted_step, broken_rule
 
@@ -150,7 +151,7 @@ def extend(table, state, held, count, records, buffer):
     number = damage(listed)
     if number:
         return number, 0, 0, 0, 0, buffer
-    if count + len(new) // RECORD.size > MOST_RECORDS:
+    if count + len(new) // RECORD.size > most_records(k_written(table)):
         return WRONG_HEADER, 0, 0, 0, 0, buffer
     if count_of(listed) > count:
         return WRONG_HEADER, 0, 0, 0, 0, buffer

@@ -1,6 +1,6 @@
 """Cases of admit, step and advance: tables, and single steps on states that no walk need reach."""
 
-from itertools import product
+from itertools import cycle, product
 
 from corpus import case_of
 from coverage import LISTED_NUMBERS, OVER, STAGE_LIMITS, step_numbers
@@ -14,7 +14,7 @@ from rules import (
     TOO_EARLY, TOO_LATE, WAITING, State, Table, earliest_clock, forbidden, latest_clocks,
 )
 from search import first_found
-from tables import LARGEST_ENTRY, admitted_table, any_table, broken_table, edge_tables, good_table
+from tables import LARGEST_ENTRY, RULES, admitted_table, any_table, broken_table, edge_tables, good_table
 
 BESIDE = -1, 0, 1
 # How far ticks go past the limits of a stage and of its phase, where they just keep or pass one of them.
@@ -149,7 +149,7 @@ def extreme_entries(chance):
 
 def rules_at_their_edge(chance):
     """Tables that break each rule first and by one, with their neighbours, and steps under the broken ones."""
-    for rule, _ in product(range(1, 16), range(3)):
+    for rule, _ in product(RULES, range(3)):
         neighbours = edge_tables(chance, rule)
         for table in neighbours:
             yield case_of("admit", table)
@@ -158,10 +158,13 @@ def rules_at_their_edge(chance):
 
 
 def every_phase_and_stage(chance):
-    """Every listed code in every phase and stage."""
-    for phase, stage, code in product(range(ERROR + 1), STAGES, LISTED):
-        state = free_state(chance, phase=phase, stage=stage)
-        yield case_of("step", good_table(chance), state, code, good_amount(chance, code))
+    """Every listed code in every phase: in every stage where the phase can allow it, else in one of them in turn."""
+    turn = cycle(STAGES)
+    for phase, code in product(range(ERROR + 1), LISTED):
+        phases, _ = ALLOWED[code]
+        for stage in STAGES if phase in phases else (next(turn),):
+            state = free_state(chance, phase=phase, stage=stage)
+            yield case_of("step", good_table(chance), state, code, good_amount(chance, code))
 
 
 def every_box(chance):
@@ -303,7 +306,7 @@ def engines_beside_limits(chance):
 
 
 def refusals_in_order(chance):
-    """Every listed code with table, code, amount and state good or bad, in every pairing."""
+    """Every listed code with table, code, amount and state good or bad, in every pairing, as a step or a record."""
     for code, bad_table, bad_code, wrong_amount, bad_state in product(LISTED, *[(False, True)] * 4):
         table = broken_table(chance) if bad_table else good_table(chance)
         given = unlisted_code(chance) if bad_code else code
@@ -311,9 +314,9 @@ def refusals_in_order(chance):
         state = free_state(chance)
         if bad_state:
             state = unlisted(chance, state)
-        yield case_of("step", table, state, given, amount)
         four = chance.choice(bad_records(chance, code)) if wrong_amount else packed_steps([(code, amount)])
-        yield case_of("advance", table, state, bytes((given,)) + four[1:])
+        yield chance.choice((case_of("step", table, state, given, amount),
+                             case_of("advance", table, state, bytes((given,)) + four[1:])))
 
 
 def demanded(chance):

@@ -20,7 +20,7 @@ from rules import DEFAULT, LAST_CLOCK, REQUESTS, START, State, broken_rule, slac
 from search import MOST_TRIES, NotFound, first_found
 from shifts import Shift, list_of
 from step_cases import aimed_steps
-from tables import admitted_table, edge_tables, good_table
+from tables import RULES, admitted_table, edge_tables, good_table
 from test_files import WOULD_NOT_CLOSE, written
 from test_shifts import listed
 from versions import Wrong, loaded
@@ -36,7 +36,7 @@ class Makers(unittest.TestCase):
             self.assertEqual(broken_rule(admitted_table(self.chance, tight)), 0)
 
     def test_edge_tables(self):
-        for rule in range(1, 16):
+        for rule in RULES:
             neighbours = edge_tables(self.chance, rule)
             self.assertEqual(broken_rule(neighbours[0]), rule)
             self.assertEqual([slacks(table)[rule - 1] for table in neighbours[:2]], [-1, 0])
@@ -232,7 +232,7 @@ class TheCoverage(unittest.TestCase):
             ((START, 5, 16_373, b"", empty), {
                 ("list damage", "extend", "5 bytes"), ("reasons", "short", "records"), ("reasons", "short", "length")}),
             ((START, 8, 16_373, b"", empty), {
-                ("reasons", "records", "alone"), ("counts", "16,373 in all", "too many")}),
+                ("reasons", "records", "alone"), ("counts", "one more in all", "too many")}),
         ):
             self.assert_marked(cells, "extend", DEFAULT, *given)
 
@@ -257,7 +257,7 @@ class Searches(unittest.TestCase):
         self.assertEqual(len(tries), MOST_TRIES)
 
     def test_a_rule_that_never_breaks(self):
-        for rule in range(1, 16):
+        for rule in RULES:
             wrong = Wrong("", "rules.py", "if slack < 0", f"if slack < 0 and rule != {rule}")
             tables = loaded("tables", wrong)
             with self.assertRaisesRegex(tables.NotFound, f"a table that breaks rule {rule} first"):

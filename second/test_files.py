@@ -312,7 +312,7 @@ class Corpus(unittest.TestCase):
             ("extend", DEFAULT, state, 12, 13, b"1234567", b"buffer"),
         ]
         cases = [case_of(*case) for case in given]
-        self.assertEqual([len(case.a) for case in cases], [36, 61, 60, 0, 0, 0, 16, 45, 36, 56, 0, 8, 68])
+        self.assertEqual([len(case.a) for case in cases], [44, 69, 68, 0, 0, 0, 16, 53, 44, 64, 0, 8, 76])
         self.assertEqual([parts_of(case) for case in cases], [list(case[1:]) for case in given])
         self.assertEqual(list(cases_in(b"".join(map(packed, cases)))), cases)
 
@@ -338,8 +338,8 @@ class Corpus(unittest.TestCase):
             (case_of("manual", DEFAULT, b"123"), "bad"),
             (case_of("block", DEFAULT, START, b"\x01\0\0\0\x0c\0\x05\0\x0c"), "block 0 0 2 0 5 0 1 0 1 0 0 0"),
             (case_of("block", DEFAULT, START, b"\x01\0\0\0\x0c\0\x06\0"), "block 12 0 1 1 0 0 1 0 1 0 0 0"),
-            (Case(10, bytes(55)), "bad"),
-            (Case(10, bytes(56), b"", b"x"), "bad"),
+            (Case(10, bytes(63)), "bad"),
+            (Case(10, bytes(64), b"", b"x"), "bad"),
             (case_of("list", written(""), b"x" * 9), "list 0 0 0 0 8 000000000800000078"),
             (case_of("list", written("1"), b"x" * 8), f"list 15 0 0 0 0 {'78' * 8}"),
             (case_of("list", written("t9 1 t15"), b""), "list 12 0 2 10 0 -"),
@@ -354,10 +354,11 @@ class Corpus(unittest.TestCase):
              f"extend 0 0 0 0 24 0100000008000000{'00' * 4}01{'00' * 11}78"),
             (case_of("extend", DEFAULT, START, 8, 7, b"\x0c\0\1\0\x02\0\0\0", bytes.fromhex("0000000008000000")),
              "extend 8 0 8 0 0 0000000008000000"),
-            (Case(13, bytes(67)), "bad"),
-            (Case(13, bytes(69)), "bad"),
-            (Case(1, bytes(35)), "bad"),
-            (Case(8, bytes(38)), "bad"),
+            (Case(13, bytes(75)), "bad"),
+            (Case(13, bytes(77)), "bad"),
+            (Case(1, bytes(43)), "bad"),
+            (Case(1, bytes(36)), "bad"),
+            (Case(8, bytes(46)), "bad"),
             (Case(5, b"", b"", b"x"), "bad"),
             (None, "bad"),
         ]

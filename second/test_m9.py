@@ -15,7 +15,7 @@ from places import PLACES, place_of, ways
 from reached import SEARCHED, first_change, reached, stop
 from records import LISTED, good_amount, packed_steps
 from rules import DEFAULT, LAST_CLOCK, PHASES, Table
-from settlements import ADDED, REQUESTED, SETTLED_ACTIONS, SETTLEMENTS
+from settlements import ADDED, DELAY_GUARDS, REQUESTED, SETTLED, SETTLED_ACTIONS, SETTLEMENTS
 from tables import good_table
 from test_files import K1, WOULD_NOT_CLOSE, lists
 from walks import ROUNDS, any_walk, lead, mixed, timed, walks_through_errors
@@ -41,7 +41,7 @@ def over(text, machine=M9):
 
 def without(event, label):
     """The machine with one guard or action as printed."""
-    off = [settlement for settlement in SETTLEMENTS + SETTLED_ACTIONS if settlement[:2] == (event, label)]
+    off = [settlement for settlement in SETTLED if settlement[:2] == (event, label)]
     assert len(off) == 1
     return Machine(off)
 
@@ -57,7 +57,7 @@ class AsPrinted(unittest.TestCase):
 
     def test_labels_count_on(self):
         for event in EVENTS.values():
-            guards = [guard.label for guard in event.guards if guard.label != ADDED]
+            guards = [guard.label for guard in event.guards if guard.label not in (ADDED, REQUESTED)]
             actions = [action.label for action in event.actions if action.label != REQUESTED]
             self.assertEqual(guards, [f"grd{number}" for number in range(1, len(guards) + 1)])
             self.assertEqual(actions, [f"act{number}" for number in range(1, len(actions) + 1)])
@@ -74,7 +74,7 @@ class AsPrinted(unittest.TestCase):
         self.assertEqual({action.value for action in EVENTS["FINAL"].actions}, {"FALSE"})
 
     def test_names_in_formulas_are_variables_and_limits(self):
-        for machine in (M9, Machine(SETTLEMENTS + SETTLED_ACTIONS)):
+        for machine in (M9, Machine(SETTLED)):
             events = sum(machine.events.values(), [])
             for needs in [event.flags for event in events] + [deadline.flags for deadline in machine.deadlines]:
                 self.assertLessEqual({*needs.up, *needs.down, *sum(needs.either, ())}, set(BOOLS) - {"isNeu"})
@@ -98,7 +98,7 @@ class Settled(unittest.TestCase):
                 self.assertEqual(bool(clause.why), clause.printed != clause.stands)
 
     def test_each_changes_a_guard_or_an_action(self):
-        self.assert_changed(SETTLEMENTS, lambda event: event.guards)
+        self.assert_changed(SETTLEMENTS + DELAY_GUARDS, lambda event: event.guards)
         self.assert_changed(SETTLED_ACTIONS, lambda event: event.actions)
 
     def test_taking_a_gear_s_order_moves_the_box_and_nothing_else_does(self):

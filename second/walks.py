@@ -4,9 +4,9 @@ from functools import lru_cache
 from itertools import product
 
 from rules import (
-    ASK_CLUTCH, DEFAULT, DELIVER, DEVICE_FAILED, DEVICE_GOOD, DONE, ENGINE_WAITS, FINISH, FROM_NEUTRAL, GEAR_TO_GEAR,
-    IN_GEAR, LONGEST_TICK, NEUTRAL, PAST_PHASE_LIMIT, PAST_STAGE_LIMIT, PHASES, RAISE_ERROR, REQUESTS, RESET, START,
-    TAKE, TICK, TO_NEUTRAL, TOO_EARLY, WAITING, admitted_step, earliest_clock, latest_clocks,
+    ASK_CLUTCH, CLUTCH_PHASES, DEFAULT, DELIVER, DEVICE_FAILED, DEVICE_GOOD, DONE, ENGINE_WAITS, FINISH, FROM_NEUTRAL,
+    GEAR_TO_GEAR, IN_GEAR, LONGEST_TICK, NEUTRAL, PAST_PHASE_LIMIT, PAST_STAGE_LIMIT, PHASES, RAISE_ERROR, REQUESTS,
+    RESET, START, TAKE, TICK, TO_NEUTRAL, TOO_EARLY, WAITING, WORKING, admitted_step, earliest_clock, latest_clocks,
 )
 from search import NotFound
 
@@ -68,7 +68,7 @@ def lead(chance, request):
 
 def pause_before(table, state, code):
     """The least and the most that can be ticked in a state before the step."""
-    least = max(0, earliest_clock(table, state, code) - state.clock)
+    least = max(0, (earliest_clock(table, state, code) or 0) - state.clock)
     most = min(latest for _, latest in latest_clocks(table, state, TICK)) - state.clock
     return least, min(most, LONGEST_TICK)
 
@@ -107,10 +107,13 @@ def states(table, steps):
     return found
 
 
-def steps_over(table, state, number, excess):
-    """Steps on a state, the last of them over the limit of this refusal by so much; None where no tick leads there."""
+def steps_over(table, state, number, excess, early=ASK_CLUTCH):
+    """Steps on a state, the last of them over the limit of this refusal by so much; None where no tick leads there.
+
+    What is too early with 9 is a step of the code that is given for it.
+    """
     if number == TOO_EARLY:
-        amount, last = earliest_clock(table, state, ASK_CLUTCH) - excess - state.clock, [(ASK_CLUTCH, 0)]
+        amount, last = earliest_clock(table, state, early) - excess - state.clock, [(early, 0)]
     else:
         amount, last = dict(latest_clocks(table, state, TICK))[number] + excess - state.clock, []
     return [(TICK, amount), *last] if 1 <= amount <= LONGEST_TICK else None
@@ -118,13 +121,22 @@ def steps_over(table, state, number, excess):
 
 def edges(table, state):
     """Steps that just keep a limit of the state, and steps that pass it by one."""
-    numbers = [number for number, _ in latest_clocks(table, state, TICK)]
+    limits = [(number, TICK) for number, _ in latest_clocks(table, state, TICK)]
     if state.stage == WAITING:
-        numbers.append(TOO_EARLY)
-    for number, excess in product(numbers, (0, 1)):
-        steps = steps_over(table, state, number, excess)
+        limits.append((TOO_EARLY, ASK_CLUTCH))
+    if state.stage == WORKING and state.phase in CLUTCH_PHASES:
+        limits += [(TOO_EARLY, DEVICE_GOOD), (TOO_EARLY, DEVICE_FAILED)]
+    for (number, code), excess in product(limits, (0, 1)):
+        steps = steps_over(table, state, number, excess, code)
         if steps:
             yield steps
+
+
+def beside_delay(table, state, code):
+    """Steps on a state in which a clutch works, the last of them its answer: one early, just kept, and one later."""
+    for past in (-1, 0, 1):
+        amount = earliest_clock(table, state, code) + past - state.clock
+        yield [(TICK, amount), (code, 0)] if amount else [(code, 0)]
 
 
 # The ways into an engine's order on which a walk gets a refusal.

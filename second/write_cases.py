@@ -7,7 +7,7 @@ from corpus import case_of
 from files import MOST_RECORDS, RECORD, file_of
 from records import EXTREME_AMOUNTS, LISTED, bad_amount, good_amount, unlisted_code, unlisted_codes
 from rules import DEFAULT
-from tables import any_table, broken_table, edge_tables, good_table
+from tables import RULES, admitted_table, any_table, broken_table, edge_tables, good_table
 
 NONE, A_TABLE = 0, 1
 
@@ -61,20 +61,22 @@ def every_table(chance):
     """The default table, wished for or not, and tables at the edge of each rule."""
     for wish in (NONE, A_TABLE):
         yield written(chance, wish, DEFAULT, *lists(chance, 3))
-    for rule in range(1, 16):
+    for rule in RULES:
         for table in edge_tables(chance, rule):
             yield written(chance, A_TABLE, table, *lists(chance, 3))
 
 
 def longest(chance):
-    """The most records that a file can hold and one more, with what else could be wrong."""
+    """The most records that a file can hold without delays and one more, with what else could be wrong."""
     codes, amounts = lists(chance, MOST_RECORDS)
-    yield written(chance, NONE, broken_table(chance), codes, amounts)
-    yield written(chance, A_TABLE, good_table(chance), codes, amounts)
-    yield written(chance, A_TABLE, good_table(chance), codes, amounts, spare=-1)
-    yield written(chance, A_TABLE, good_table(chance), *with_fault(chance, codes, amounts, MOST_RECORDS - 1))
+    # Where none is wished for, delays of the table do not count, nor that it is not admitted.
+    yield written(chance, NONE, edge_tables(chance, RULES[-1])[0], codes, amounts)
+    yield written(chance, A_TABLE, admitted_table(chance), codes, amounts)
+    yield written(chance, A_TABLE, admitted_table(chance), codes, amounts, spare=-1)
+    yield written(chance, A_TABLE, admitted_table(chance), *with_fault(chance, codes, amounts, MOST_RECORDS - 1))
     codes, amounts = lists(chance, MOST_RECORDS + 1)
     yield written(chance, NONE, good_table(chance), codes, amounts)
+    yield written(chance, A_TABLE, admitted_table(chance), codes, amounts, spare=NO_BUFFER)
     yield written(chance, A_TABLE, broken_table(chance), *with_fault(chance, codes, amounts, 0), spare=NO_BUFFER)
     yield written(chance, NONE, good_table(chance), codes, amounts[1:])
 

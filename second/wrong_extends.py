@@ -6,7 +6,8 @@ WHOLE = "records[:len(records) // RECORD.size * RECORD.size]"
 LISTED = f"listed, new = buffer[:held], {WHOLE}\n"
 HELD = "    if held > len(buffer):\n        return NO_ROOM, 0, 0, 0, 0, buffer\n"
 DAMAGED = "    number = damage(listed)\n    if number:\n        return number, 0, 0, 0, 0, buffer\n"
-RECORDS = "    if count + len(new) // RECORD.size > MOST_RECORDS:\n        return WRONG_HEADER, 0, 0, 0, 0, buffer\n"
+MOST = "most_records(k_written(table))"
+RECORDS = f"    if count + len(new) // RECORD.size > {MOST}:\n        return WRONG_HEADER, 0, 0, 0, 0, buffer\n"
 SHIFTS = "    if count_of(listed) > count:\n        return WRONG_HEADER, 0, 0, 0, 0, buffer\n"
 TABLE = "    rule = broken_rule(table)\n    if rule:\n        return NOT_ADMITTED, rule, 0, 0, 0, buffer\n"
 FIT = "    if not fits(state, count, last_entry(listed)):\n        return NOT_IN_LIST, 0, 0, 0, 0, buffer\n"
@@ -60,7 +61,7 @@ REFUSALS = [
     ("2 before 1 for a held list", *before(OTHER_OFFSET, DAMAGED)),
     ("the records' 2 before 15 for a held list", *before(RECORDS, HELD)),
     ("the records' 2 before 1", *before(RECORDS, DAMAGED)),
-    ("the records' 2 before 3", *not_3_for("count + len(new) // RECORD.size > MOST_RECORDS", "WRONG_HEADER")),
+    ("the records' 2 before 3", *not_3_for(f"count + len(new) // RECORD.size > {MOST}", "WRONG_HEADER")),
     ("the shifts' 2 before 3", *not_3_for("count_of(listed) > count", "WRONG_HEADER")),
     ("4 before 15 for a held list", *before(TABLE, HELD)),
     ("4 before 1 to 3 of a list", *before(TABLE, DAMAGED)),
@@ -96,7 +97,7 @@ REFUSALS = [
         "if number:", "if number and (number < 3 or held != (8 + 16 * count_of(listed)) % 2**32):")),
     ("any number of records is extended", *without(RECORDS)),
     ("16,372 records are too many to extend", RECORDS, RECORDS.replace(">", ">=")),
-    ("16,373 records are not too many to extend", RECORDS, RECORDS.replace(" > MOST", " - 1 > MOST")),
+    ("16,373 records are not too many to extend", RECORDS, RECORDS.replace(" > most", " - 1 > most")),
     ("only the records before are counted", RECORDS, RECORDS.replace("count + len(new) // RECORD.size", "count")),
     ("the sum of records wraps at 32 bits", RECORDS, RECORDS.replace(
         "count + len(new) // RECORD.size", "(count + len(new) // RECORD.size) % 2**32")),

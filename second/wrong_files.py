@@ -3,10 +3,10 @@
 # The reader: the header's fields and bounds, the table, the records, and the order 1, 2, 3, 4.
 
 SHORT, HEADER = "return TOO_SHORT\n", "return WRONG_HEADER\n"
-TABLE_OFFSET, ENTRIES = "table_offset != HEADER.size or ", "k not in (0, 18) or "
-RECORD_OFFSET, COUNT = "offset != record_offset(k) or ", "n > MOST_RECORDS:\n        return WRONG_HEADER\n"
+TABLE_OFFSET, ENTRIES = "table_offset != HEADER.size or ", "k not in ENTRY_COUNTS or "
+RECORD_OFFSET, COUNT = "offset != record_offset(k) or ", "n > most_records(k):\n        return WRONG_HEADER\n"
 LENGTH = "len(file) == offset + RECORD.size * n"
-HAS_TABLE, SAYS_18 = "len(file) >= record_offset(18)", "header_of(file).k == 18"
+HAS_TABLE, HAS_ENTRIES, SAYS = "len(entries) == 2 * k", "if k in ENTRY_COUNTS[1:]", "header_of(file).k if len(file)"
 GOOD = "if not number:"
 
 READER = [
@@ -15,7 +15,7 @@ READER = [
     ("2 for no bytes", SHORT, "return TOO_SHORT if file else WRONG_HEADER\n"),
     ("3 before 1", SHORT, "return WRONG_LENGTH\n"),
     ("3 before 2", HEADER, f"return WRONG_HEADER if {LENGTH} else WRONG_LENGTH\n"),
-    ("3 before 2 for too many records", COUNT, f"n > MOST_RECORDS and {LENGTH}:\n        return WRONG_HEADER\n"),
+    ("3 before 2 for too many records", COUNT, f"n > most_records(k) and {LENGTH}:\n        return WRONG_HEADER\n"),
     ("3 before 2 above 65,536 bytes", SHORT, f"{SHORT}    if len(file) > 65_536:\n        return WRONG_LENGTH\n"),
     ("4 before 3", GOOD, "if not number or number == WRONG_LENGTH and broken_rule(table):"),
     ("4 before 2", GOOD, "if not number or number == WRONG_HEADER and broken_rule(table):"),
@@ -25,34 +25,34 @@ READER = [
     ("table offset 13", TABLE_OFFSET, "table_offset not in (12, 13) or "),
     ("table offset of 8 bits", TABLE_OFFSET, "table_offset % 2**8 != HEADER.size or "),
     ("any table offset", TABLE_OFFSET, ""),
-    ("1 entry", ENTRIES, "k not in (0, 1, 18) or "),
-    ("17 entries", ENTRIES, "k not in (0, 17, 18) or "),
-    ("19 entries", ENTRIES, "k not in (0, 18, 19) or "),
+    ("1 entry", ENTRIES, "k not in (1, *ENTRY_COUNTS) or "),
+    ("17 entries", ENTRIES, "k not in (17, *ENTRY_COUNTS) or "),
+    ("19 entries", ENTRIES, "k not in (19, *ENTRY_COUNTS) or "),
     ("any number of entries", ENTRIES, ""),
-    ("0 entries are refused", ENTRIES, "k != 18 or "),
-    ("18 entries are refused", ENTRIES, "k != 0 or "),
+    ("0 entries are refused", ENTRIES, "k not in ENTRY_COUNTS[1:] or "),
+    ("18 entries are refused", ENTRIES, "k not in (0, WITH_DELAYS) or "),
     ("record offset one less", RECORD_OFFSET, "offset not in (record_offset(k) - 1, record_offset(k)) or "),
     ("record offset one more", RECORD_OFFSET, "offset not in (record_offset(k), record_offset(k) + 1) or "),
     ("record offset of 16 bits", RECORD_OFFSET, "offset % 2**16 != record_offset(k) or "),
     ("record offset 12 with a table too", RECORD_OFFSET, "offset not in (12, record_offset(k)) or "),
     ("any record offset", RECORD_OFFSET, ""),
     ("16,372 records are too many to read", COUNT, COUNT.replace(">", ">=")),
-    ("16,373 records are not too many to read", COUNT, COUNT.replace(":", " + 1:")),
+    ("16,373 records are not too many to read", COUNT, COUNT.replace("(k)", "(k) + 1")),
     ("record count of 16 bits", COUNT, COUNT.replace("n >", "n % 2**16 >")),
-    ("any number of records", COUNT, COUNT.replace("n > MOST_RECORDS", "False")),
-    ("16,371 is the most to read and write", "MOST_RECORDS = 16_372", "MOST_RECORDS = 16_371"),
-    ("16,373 is the most to read and write", "MOST_RECORDS = 16_372", "MOST_RECORDS = 16_373"),
+    ("any number of records", COUNT, COUNT.replace("n > most_records(k)", "False")),
+    ("16,371 is the most to read and write", "= 16_372, 16_370", "= 16_371, 16_370"),
+    ("16,373 is the most to read and write", "= 16_372, 16_370", "= 16_373, 16_370"),
     ("a record more than the count", LENGTH, f"{LENGTH} or len(file) == offset + RECORD.size * (n + 1)"),
     ("a record less than the count", LENGTH, f"{LENGTH} or len(file) == offset + RECORD.size * (n - 1)"),
     ("a header alone is a file", LENGTH, f"{LENGTH} or len(file) == HEADER.size"),
     ("the header is big-endian", '"<HHII"', '">HHII"'),
     ("the amount is big-endian", '"<BBH"', '">BBH"'),
     ("code and middle byte crossed", "code, middle, amount = RECORD", "middle, code, amount = RECORD"),
-    ("no table in 48 bytes", HAS_TABLE, "len(file) > record_offset(18)"),
-    ("a table for any number but 0", SAYS_18, "header_of(file).k != 0"),
-    ("a table for the number 0", SAYS_18, "header_of(file).k in (0, 18)"),
-    ("never a table", SAYS_18, "header_of(file).k == 19"),
-    ("a table one entry early", "unpack_from(file, HEADER.size)", "unpack_from(file, HEADER.size - 2)"),
+    ("no table in 48 bytes", HAS_TABLE, "len(file) > record_offset(k)"),
+    ("a table for any number but 0", HAS_ENTRIES, "if k"),
+    ("a table for the number 0", SAYS, "header_of(file).k or 18 if len(file)"),
+    ("never a table", HAS_ENTRIES, "if k == 19"),
+    ("a table one entry early", "file[HEADER.size:record_offset(k)]", "file[HEADER.size - 2:record_offset(k) - 2]"),
     ("records from byte 12 with a table too", "file[header_of(file).record_offset:]", "file[HEADER.size:]"),
     ("records of a file refused with 4", 'b"" if number else', 'b"" if number and not rule else'),
 ]
@@ -297,19 +297,21 @@ LINE = [
 
 # The writer: its bounds, what it writes, and the order 3, 2, 4, first record with 5 or 6, 15.
 
-UNEQUAL, MANY, BROKEN = "if len(codes) != len(amounts)", "if len(codes) > MOST_RECORDS", "    if rule:\n"
+UNEQUAL, BROKEN = "if len(codes) != len(amounts)", "    if rule:\n"
+MANY = "if len(codes) > most_records(k_written(table))"
 FAULTY, BROKEN_TABLE = "any(map(unreadable, codes, amounts))", "(table and broken_rule(table))"
 FULL = "(NO_ROOM, 0, 0, 0, buffer) if len(file_of(table, bytes(RECORD.size * len(codes)))) > len(buffer) else"
 ANSWER_3, ANSWER_2 = "WRONG_LENGTH, 0, 0, 0, buffer", "WRONG_HEADER, 0, 0, 0, buffer"
 ANSWER_4, ANSWER_5_6 = "NOT_ADMITTED, rule, 0, 0, buffer", "number, 0, index, 0, buffer"
-TABLE_RULE, NO_ENTRIES = "rule = 0 if table is None else broken_rule(table)", 'b"" if table is None else'
+TABLE_RULE = "rule = 0 if table is None else broken_rule(table)"
+NO_ENTRIES = "    if table is None:\n        return 0\n"
 
 WRITER = [
     ("fewer amounts than codes", UNEQUAL, "if len(codes) < len(amounts)"),
     ("fewer codes than amounts", UNEQUAL, "if len(codes) > len(amounts)"),
-    ("16,372 records are too many to write", MANY, "if len(codes) >= MOST_RECORDS"),
-    ("16,373 records are not too many to write", MANY, "if len(codes) > MOST_RECORDS + 1"),
-    ("2 before 3 of the writer", UNEQUAL, f"{UNEQUAL} and len(codes) <= MOST_RECORDS"),
+    ("16,372 records are too many to write", MANY, MANY.replace(">", ">=")),
+    ("16,373 records are not too many to write", MANY, f"{MANY} + 1"),
+    ("2 before 3 of the writer", UNEQUAL, f"{UNEQUAL} and len(codes) <= most_records(k_written(table))"),
     ("4 before 3 of the writer", UNEQUAL, f"{UNEQUAL} and not {BROKEN_TABLE}"),
     ("4 before 2 of the writer", MANY, f"{MANY} and not {BROKEN_TABLE}"),
     ("5 and 6 before 3", UNEQUAL, f"{UNEQUAL} and not {FAULTY}"),
@@ -334,11 +336,10 @@ WRITER = [
      "number = 0 if (code, amount) == (14, 0) else unreadable(code, amount)"),
     ("amounts are cut to 16 bits", TABLE_RULE, f"amounts = [amount % 2**16 for amount in amounts]\n    {TABLE_RULE}"),
     ("a middle byte of 1 is written", "RECORD.pack(code, 0, amount)", "RECORD.pack(code, 1, amount)"),
-    ("the wish for none writes the default table", f"{NO_ENTRIES} ENTRIES.pack(*table)",
-     "ENTRIES.pack(*(table or DEFAULT))"),
-    ("the default table is not written", NO_ENTRIES, 'b"" if table in (None, DEFAULT) else'),
-    ("no table is written", NO_ENTRIES, 'b"" if True else'),
-    ("k is written in bytes", "k = len(entries) // 2", "k = len(entries)"),
+    ("the wish for none writes the default table", NO_ENTRIES, NO_ENTRIES.replace("0", "WITHOUT_DELAYS")),
+    ("the default table is not written", NO_ENTRIES, NO_ENTRIES.replace("is None", "in (None, DEFAULT)")),
+    ("no table is written", NO_ENTRIES, "    return 0\n"),
+    ("k is written in bytes", "HEADER.pack(HEADER.size, k,", "HEADER.pack(HEADER.size, 2 * k,"),
     ("n is written in bytes", "len(records) // RECORD.size) +", "len(records)) +"),
     ("n is written one more", "len(records) // RECORD.size) +", "len(records) // RECORD.size + 1) +"),
     ("records are written before the table", "+ entries + records", "+ records + entries"),

@@ -11,7 +11,7 @@ def words(name):
 # The limit table and its admission.
 
 SLACKS = {
-    1: "min(t) - 1,",
+    1: "min(t[:LIMITS]) - 1,",
     2: "t.Sync_EX - (both_ways + t.Engine_Sync_DL),",
     3: "t.Zero_EX - (both_ways + t.Engine_Zero_DL),",
     4: "t.OpenClutch_DL - (both_ways + t.Clutch_Open_DL) - 1,",
@@ -22,6 +22,7 @@ SLACKS = {
     9: "t.Zero_DE - t.Zero_EX - 1,",
     10: "t.Sync_DL - t.Sync_DE,",
     11: "t.Zero_DL - t.Zero_DE,",
+    16: "min(delay_slacks(t)) if has_delays(t) else 1,",
 }
 ROUTES = {12: "f", 13: "n", 14: "g1", 15: "g2"}
 
@@ -48,8 +49,8 @@ def off_defaults():
 ADMISSION = [
     *off_defaults(),
     *off_rules(),
-    ("rule 1 leaves Channel_DL out", "min(t) - 1,", "min(t[1:]) - 1,"),
-    ("rule 1 leaves ChangeDL out", "min(t) - 1,", "min(t[:-1]) - 1,"),
+    ("rule 1 leaves Channel_DL out", SLACKS[1], "min(t[1:LIMITS]) - 1,"),
+    ("rule 1 leaves ChangeDL out", SLACKS[1], "min(t[:LIMITS - 1]) - 1,"),
     ("Ch for 2Ch", "2 * t.Channel_DL", "t.Channel_DL"),
     ("2Ch wraps at 16 bits", "2 * t.Channel_DL", "2 * t.Channel_DL % 2**16"),
     ("route sums wrap at 16 bits", "t.ChangeDL - route_sum for", "t.ChangeDL - route_sum % 2**16 for"),
@@ -273,9 +274,9 @@ ALLOWED_WHEN = [
     ("a failed phase above 23 is refused", UNLISTED_BOX, f"{UNLISTED_BOX} or state.failed_phase > ERROR"),
 ]
 
-PASSED, EARLY = "in found if excess > 0", "[(TOO_EARLY, earliest_clock(table, state, code) - clock)]"
+PASSED, EARLY = "in found if excess > 0", "if earliest is not None:"
 EX, HAS_EX = "state.phase_time + getattr(table, order.expiry)", "if code == TAKE and order.expiry:"
-DE = "state.phase_time + getattr(table, PHASES[state.phase].order.earliest)"
+DE = "state.phase_time + getattr(table, order.earliest)"
 CHANNEL, CHANNEL_STAGES = "state.stage_time + table.Channel_DL", "(SENT, GOOD)"
 DEVICE, DEVICE_STAGE = "state.stage_time + getattr(table, order.device_limit)", "if state.stage == WORKING:"
 PHASE, ADD_PHASE = "state.phase_time + getattr(table, order.phase_limit)", "        latest.append((PAST_PHASE_LIMIT"
@@ -295,7 +296,7 @@ LIMITS = [
     ("DE from the stage time", DE, DE.replace("phase_time", "stage_time")),
     ("DE from the request time", DE, DE.replace("phase_time", "request_time")),
     ("DE wraps at 32 bits", DE, f"({DE}) % 2**32"),
-    ("no DE", EARLY, "[]"),
+    ("no DE", EARLY, "if earliest is not None and code != ASK_CLUTCH:"),
     ("the clock up to 4,294,967,294", "(PAST_CLOCK, LAST_CLOCK)", "(PAST_CLOCK, LAST_CLOCK - 1)"),
     ("the clock up to 4,294,967,296", "(PAST_CLOCK, LAST_CLOCK)", "(PAST_CLOCK, LAST_CLOCK + 1)"),
     ("the clock without an end", "(PAST_CLOCK, LAST_CLOCK)", "(PAST_CLOCK, 2**64)"),

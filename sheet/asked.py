@@ -1,4 +1,5 @@
-"""The sheet's cells as the proved program answers them: next phases, limits, errors, requests and ends step by step; the defaults."""
+"""The sheet's cells as the proved program answers them: next phases, limits, delays, errors, requests and ends step by step; the
+defaults."""
 
 from typing import NamedTuple
 
@@ -11,7 +12,8 @@ from program import printed
 
 # An admitted table in which no two limits of a column are equal, so that an entry taken for another shows.
 APART = rules.DEFAULT._replace(Engine_Zero_DL=202, Clutch_Open_DL=153, Clutch_Close_DL=144, Gear_Release_DL=206,
-                               OpenClutch_DL=203, CloseClutch_DL=196, ChangeDL=2000)
+                               OpenClutch_DL=203, CloseClutch_DL=196, ChangeDL=2000, Clutch_Open_DE=21, Error_Clutch_Open_DE=62,
+                               Clutch_Close_DE=23, Error_Clutch_Close_DE=64)
 
 
 class Question(NamedTuple):
@@ -41,6 +43,13 @@ def not_allowed(cell, state, code):
     return Question(cell, state, code, 0, rules.NOT_ALLOWED, 0, state.phase)
 
 
+def asked_of_report(cell, working, code, delay):
+    """Questions on a device that is good or failed, from its delay on; without one at once."""
+    yield told(cell, working._replace(clock=delay), code, working.phase)
+    if delay:
+        yield passed(cell, working._replace(clock=delay - 1), code, rules.TOO_EARLY)
+
+
 def asked_of_order(row, limits):
     """Questions on a phase that has an order."""
     at = rules.State(phase=row.phase)
@@ -51,6 +60,7 @@ def asked_of_order(row, limits):
     yield passed("device limit", working, rules.TICK, rules.PAST_STAGE_LIMIT, limit["device"] + 1)
     yield told("phase limit", at, rules.TICK, row.phase, limit["phase"])
     yield passed("phase limit", at, rules.TICK, rules.PAST_PHASE_LIMIT, limit["phase"] + 1)
+    yield from asked_of_report("good from", working, rules.DEVICE_GOOD, limit.get("plain", 0))
     if row.clutch:
         yield passed("latest take", ready._replace(clock=limit["ex"] + 1), rules.TAKE, rules.TOO_LATE)
         yield told("latest take", ready._replace(clock=limit["ex"]), rules.TAKE, row.next)
@@ -59,7 +69,7 @@ def asked_of_order(row, limits):
         yield not_allowed("error", working, rules.DEVICE_FAILED)
     else:
         yield not_allowed("after asking for the clutch", waiting._replace(clock=1000), rules.ASK_CLUTCH)
-        yield told("error", working, rules.DEVICE_FAILED, row.phase)
+        yield from asked_of_report("failed from", working, rules.DEVICE_FAILED, limit.get("error", 0))
         yield told("error", at._replace(stage=rules.FAILED), rules.RAISE_ERROR, ERROR)
 
 

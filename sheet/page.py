@@ -1,4 +1,5 @@
-"""The generated parts of docs/PHASES.md: the table of phases, the times of the engine's orders, and the kinds of shift."""
+"""The generated parts of docs/PHASES.md: the table of phases, the times of the engine's orders, the delays of the clutch's, and the
+kinds of shift."""
 
 from table import sheet_rows
 
@@ -9,6 +10,11 @@ def limit_text(limits, order):
     """A limit by its entry, its name and its default."""
     limit = limits.get(order)
     return f"{limit.entry} {limit.name}, {limit.default} ms" if limit else ""
+
+
+def delay_text(limits, order):
+    """A delay by its entry, its name and its default, with that of the house's table."""
+    return f"{limit_text(limits, order)} (house {limits[order].house} ms)"
 
 
 def joined(values, sign):
@@ -45,6 +51,9 @@ def parts(table, code):
     latest, earliest = table.limits["ex"], table.limits["de"]
     engine = table_of(("order", "taken until", "clutch asked for from"),
                       ((order, limit_text(latest, order), limit_text(earliest, order)) for order in latest))
+    plain, error = table.limits["plain"], table.limits["error"]
+    clutch = table_of(("order", "good from", "failed from"),
+                      ((order, delay_text(plain, order), delay_text(error, order)) for order in plain))
     kinds = table_of(("request", "kind", "first phase", "never older than, while unfinished"),
                      ((str(kind.request), kind.name, str(kind.first), f"{kind.sum} ms") for kind in table.kinds))
-    return {"phases": phases, "engine": engine, "kinds": kinds}
+    return {"phases": phases, "engine": engine, "clutch": clutch, "kinds": kinds}

@@ -25,11 +25,12 @@ class Unread(Exception):
 
 
 class Limit(NamedTuple):
-    """An entry of the limit table."""
+    """An entry of the limit table: its number, its name, and its value by default and in the house's table."""
 
     entry: int
     name: str
     default: int
+    house: int
 
 
 class Row(NamedTuple):
@@ -78,19 +79,29 @@ def numbers(text):
     return [int(number) for number in re.findall(r"\d+", text)]
 
 
+def listed(text, part):
+    """The names of the limits or of the delays in the definitions, in their order."""
+    return re.findall(r"«(\w+)»", found(rf"^{part} t =\n(.*?)\[\]$", text, f"the list of {part}").group(1))
+
+
 def fields(text):
-    """The names of the eighteen entries in the definitions, in their order."""
-    return re.findall(r"«(\w+)»", found(r"^entries t =\n(.*?)\[\]$", text, "the list of entries").group(1))
+    """The names of the entries in the definitions, in their order: behind the limits come the delays."""
+    return listed(text, "limits") + listed(text, "delays")
 
 
 def entries(text):
-    """The eighteen entries, under the manual's names, by their names in the definitions."""
-    names, defaults = fields(text), numbers(found(r"^ +tableOf \(([^)]*)\)", text, "the default table").group(1))
+    """The entries, under the manual's names, by their names in the definitions. By default the delays are 0."""
+    names, delays = fields(text), listed(text, "delays")
+    defaults = numbers(found(r"^ +tableOf \(([^)]*)\)", text, "the default table").group(1))
+    house = numbers(found(r"^house = tableOf \(limits default \+\+ \(([^)]*)\)\)$", text, "the house's table").group(1))
     if [name.replace("_", "") for name in names] != [name.replace("_", "").lower() for name in rules.Table._fields]:
         raise Unread("the entries are not those of the second program")
-    if len(defaults) != len(names):
-        raise Unread(f"the default table has {len(defaults)} entries, not {len(names)}")
-    return {name: Limit(entry, rules.Table._fields[entry], defaults[entry]) for entry, name in enumerate(names)}
+    if len(defaults) + len(delays) != len(names):
+        raise Unread(f"the default table has {len(defaults)} entries, not {len(names) - len(delays)}")
+    if len(house) != len(delays):
+        raise Unread(f"the house's table has {len(house)} delays, not {len(delays)}")
+    values = zip(rules.Table._fields, defaults + [0] * len(delays), defaults + house)
+    return {name: Limit(entry, *value) for entry, (name, value) in enumerate(zip(names, values))}
 
 
 def orders(text):
@@ -129,9 +140,10 @@ def limits_by_order(text, all_entries):
     """The limits of the definitions, each column by order."""
     by_number = list(all_entries.values())
     columns = {}
-    for column in ("device", "phase", "ex", "de"):
-        listed = numbers(found(rf"^{column}Entries = (.*?)$", text, f"{column}Entries").group(1))
-        columns[column] = {order: by_number[listed[number]] for number, order in orders(text).items() if number < len(listed)}
+    for column in ("device", "phase", "ex", "de", "plain", "error"):
+        by_order = dict(enumerate(numbers(found(rf"^{column}Entries = (.*?)$", text, f"{column}Entries").group(1))))
+        columns[column] = {order: by_number[by_order[number]] for number, order in orders(text).items()
+                           if by_order.get(number, len(by_number)) < len(by_number)}
     return columns
 
 
@@ -201,8 +213,9 @@ def sheet_rows(code):
 
 
 def limits_in_code(code, name):
-    """A choice of a limit by order: the field, or the number of the entry, that each order has."""
-    return {words(order): said for order, said in re.findall(r"^ +([A-Z]\w*) => (?:table\.)?(\w+),$", body(code, name), re.M)}
+    """A choice of a limit by order: the field, or the number of the entry, that each order has; one that says 0 has none."""
+    return {words(order): said for order, said in re.findall(r"^ +([A-Z]\w*) => (?:table\.)?(\w+),$", body(code, name), re.M)
+            if said != "0"}
 
 
 def orders_in_code(code):

@@ -44,6 +44,16 @@ static void judging(void)
     make_with(with(0, 0), K1), judges("a limit of 0", 4);
     make_with(with(0, 6), "1 t6"), judges("K3 under a looser table", 0);
     make_with(with(0, 4), "1 t5"), judges("5 under a tighter table", 12);
+    make_with(house, DELAYED), judges("the house's delays", 0);
+    make_with(house, TO_OPEN " t19 5"), judges("9, opened too early", 9);
+    make_with(house, TO_OPEN " t59 6"), judges("9, failed to open too early", 9);
+    make_with(house, TO_CLOSE " t19 5"), judges("9, closed too early", 9);
+    make_with(house, TO_CLOSE " t59 6"), judges("9, failed to close too early", 9);
+    make_with(normal, TO_CLOSE " t19 5"), judges("the same without delays", 0);
+    make_with_22(normal, WOULD_NOT_CLOSE), judges("22 entries without delays", 0);
+    make_with_22(house, WOULD_NOT_CLOSE), judges("22 entries with delays", 9);
+    make_with(house_with(19, 20), K1), judges("rule 16", 4);
+    make_with(house_with(19, 20), K1), made_length--, judges("3 before rule 16", 3);
     made_length = 0, judges("nothing", 1);
     make(""), made_length = 11, judges("11 bytes", 1);
 
@@ -53,7 +63,9 @@ static void judging(void)
     judges_byte("17 entries", 2, 17, 2);
     judges_byte("256 entries", 3, 1, 2);
     judges_byte("18 entries, record offset 12", 2, 18, 2);
+    judges_byte("22 entries, record offset 12", 2, 22, 2);
     judges_byte("record offset 48, no entries", 4, 48, 2);
+    judges_byte("record offset 56, no entries", 4, 56, 2);
     judges_byte("record offset above 16 bits", 6, 1, 2);
     judges_byte("16,396 records in the header", 9, 64, 2);
     judges_byte("a count above 16 bits", 10, 1, 2);
@@ -69,6 +81,13 @@ static void judging(void)
     judges_byte("a tick of 0", 18, 0, 6);
     judges_byte("an amount for the last step", made_length - 1, 128, 6);
     made[13] = 1, judges_byte("code 14 and a middle byte", 12, 14, 5);
+    for (unsigned k = 17; k < 24; k++) {
+        list(K1), made_length = 0, make_entries(k > 22 ? 22 : k, &house);
+        made[2] = (uint8_t)k, made[4] = (uint8_t)(12 + 2 * k), made_length += k > 22 ? 2 : 0;
+        judges("so many entries", k == 18 || k == 22 ? 0 : 2);
+    }
+    make_with(house, K1), judges_byte("22 entries, record offset 48", 4, 48, 2);
+    make_with(normal, K1), judges_byte("18 entries, record offset 56", 4, 56, 2);
     make(K1), made_length--, judges("a byte too few", 3);
     make(K1), made[made_length++] = 0, judges("a byte too many", 3);
     make_with(with(0, 0), K1), made_length--, judges("3 before 4", 3);
@@ -89,6 +108,14 @@ static void judging(void)
     made[made_length++] = 0, judges("the longest file and a byte", 3);
     ticks(MUNASIREL_MOST_RECORDS, 65535), make_list(NULL), judges("the longest file without a table", 0);
     ticks(MUNASIREL_MOST_RECORDS + 1, 1), make_list(NULL), judges("16,373 records", 2);
+    ticks(MUNASIREL_MOST_RECORDS_22, 65535), make_list(&house), judges("the longest file of 22 entries", 0);
+    made[made_length++] = 0, judges("the longest file of 22 entries and a byte", 3);
+    ticks(MUNASIREL_MOST_RECORDS_22, 65535), make_entries(22, &normal), judges("the longest one without delays", 0);
+    for (steps = MUNASIREL_MOST_RECORDS_22 + 1; steps <= MUNASIREL_MOST_RECORDS; steps++) {
+        make_list(&house), judges("too many records with 22 entries", 2);
+        make_entries(22, &normal), judges("too many with 22 entries and no delays", 2);
+        make_list(&normal), judges("as many with 18 entries", 0);
+    }
     memset(made, 0, sizeof made), made_length = 65537, judges("65,537 zero bytes", 2);
 }
 
@@ -140,6 +167,8 @@ static void giving(void)
     make_with(with(0, 0), K1), made_length--, gives("3 before 4", 3, 0, 0, 0, start);
     make_with(with(0, 0), "1 t6"), gives("a limit of 0", 4, 1, 0, 0, start);
     make_with(with(9, 65535), "t7 1 t6"), gives("rule 12", 4, 12, 0, 0, start);
+    make_with(house_with(20, 0), K1), gives("rule 16", 4, 16, 0, 0, start);
+    ticks(MUNASIREL_MOST_RECORDS_22 + 1, 1), make_list(&house), gives("16,371 records and 22 entries", 2, 0, 0, 0, start);
 
     /* What is refused with 5 to 8 is over by nothing. */
     make("t7 14 1 1"), gives("5", 5, 0, 1, 0, ticked);
@@ -155,6 +184,20 @@ static void giving(void)
     make(IN_GEAR " 3 4 7 t1 9"), gives("9, zero torque, to neutral", 9, 0, 12, 250, S(1, 1, 17, 0, 5, 0, 0, 0));
     make(IN_GEAR " 2 4 5 t5 8 4 t9 5 8 4 7 t1 9"), gives("9, sync in phase 10", 9, 0, 20, 150, S(15, 0, 10, 14, 5, 14, 0, 0));
     make_with(with(11, 155), "1 4 7 t150 9"), gives("9 under another table", 9, 0, 4, 5, S(150, 0, 1, 0, 5, 0, 0, 0));
+
+    /* 9 of a clutch that reports too early: stage time + delay - clock. */
+    make_with(house, TO_OPEN " 5"), gives("9 by all of the open delay", 9, 0, 8, 20, S(156, 0, 2, 151, 2, 156, 0, 0));
+    make_with(house, TO_OPEN " t19 5"), gives("9, opened too early", 9, 0, 9, 1, S(175, 0, 2, 151, 2, 156, 0, 0));
+    make_with(house, TO_OPEN " t20 6"), gives("9, failed at the plain delay", 9, 0, 9, 40, S(176, 0, 2, 151, 2, 156, 0, 0));
+    make_with(house, TO_OPEN " t59 6"), gives("9, failed to open too early", 9, 0, 9, 1, S(215, 0, 2, 151, 2, 156, 0, 0));
+    make_with(house, TO_OPEN " t60 6"), gives("failed to open in time", 0, 0, 10, 0, S(216, 0, 2, 151, 4, 216, 0, 0));
+    make_with(house, TO_CLOSE " 5"), gives("9 by all of the close delay", 9, 0, 16, 20, S(181, 1, 5, 176, 2, 181, 0, 0));
+    make_with(house, TO_CLOSE " t19 5"), gives("9, closed too early", 9, 0, 17, 1, S(200, 1, 5, 176, 2, 181, 0, 0));
+    make_with(house, TO_CLOSE " t59 6"), gives("9, failed to close too early", 9, 0, 17, 1, S(240, 1, 5, 176, 2, 181, 0, 0));
+    make_with(house, TO_CLOSE " t60 6 10"), gives("failed to close in time", 0, 0, 19, 0, S(241, 1, 23, 241, 0, 241, 0, 5));
+    make_with(house, DELAYED), gives("the house's delays", 0, 0, 20, 0, S(201, 1, 0, 201, 0, 201, 0, 0));
+    make_with(apart, TO_OPEN " t20 5"), gives("9, another open delay", 9, 0, 9, 1, S(176, 0, 2, 151, 2, 156, 0, 0));
+    make_with_22(normal, WOULD_NOT_CLOSE), gives("22 entries without delays", 0, 0, 14, 0, S(151, 1, 23, 151, 0, 151, 0, 5));
 
     /* 11: new clock - (phase time + phase limit). */
     make("t9 1 t5 4 7 t200"), gives("11 by more", 11, 0, 5, 50, S(14, 0, 1, 9, 5, 14, 9, 0));
@@ -210,6 +253,32 @@ static void admitting(void)
     table.change_dl = 905, admits("13", table, 13);
     table.zero_dl = 1000, table.change_dl = 1999, admits("15", table, 15);
     table.change_dl = 2000, admits("15, just kept", table, 0);
+    admits("the house's", house, 0);
+    admits("delays that differ", apart, 0);
+    for (unsigned i = 0; i < 18; i++)
+        admits("1, an entry of 0 with delays", house_with(i, 0), 1);
+    for (unsigned i = 18; i < 22; i++) {
+        admits("16, a delay of 0", house_with(i, 0), 16);
+        admits("16, a single delay", with(i, 1), 16);
+        admits("16, the largest delay", house_with(i, 65535), 16);
+    }
+    static const struct { const char *name; unsigned entry, limit, rule; } of_house[] = {
+        {"16, plain 1, open", 18, 1, 0},                  {"16, plain 1, close", 20, 1, 0},
+        {"16, plain just below error, open", 18, 59, 0},  {"16, plain at error, open", 18, 60, 16},
+        {"16, plain just below error, close", 20, 59, 0}, {"16, plain at error, close", 20, 60, 16},
+        {"16, error just above plain, open", 19, 21, 0},  {"16, error at plain, open", 19, 20, 16},
+        {"16, error just above plain, close", 21, 21, 0}, {"16, error at plain, close", 21, 20, 16},
+        {"16, error at device limit, open", 19, 150, 0},  {"16, error past device limit, open", 19, 151, 16},
+        {"16, error at device limit, close", 21, 150, 0}, {"16, error past device limit, close", 21, 151, 16},
+        {"16, device limit at error, open", 3, 60, 0},    {"16, device limit below error, open", 3, 59, 16},
+        {"16, device limit at error, close", 4, 60, 0},   {"16, device limit below error, close", 4, 59, 16},
+        {"14 with delays", 17, 1404, 14},
+    };
+    for (size_t i = 0; i < sizeof of_house / sizeof *of_house; i++)
+        admits(of_house[i].name, house_with(of_house[i].entry, of_house[i].limit), of_house[i].rule);
+    table = house, table.clutch_open_de = table.error_clutch_open_de = 0, admits("16, delays to close alone", table, 16);
+    table = house, table.clutch_close_de = table.error_clutch_close_de = 0, admits("16, delays to open alone", table, 16);
+    table = house_with(18, 60), table.change_dl = 904, admits("12 before 16", table, 12);
     memset(&table, 255, sizeof table), admits("all 65,535", table, 2);
     memset(&table, 0, sizeof table), admits("all 0", table, 1);
 }
@@ -226,7 +295,11 @@ static void tables(const char *name, munasirel_limits want)
 
 static void tabling(void)
 {
-    munasirel_limits odd = {1, 2, 3, 4, 5, 6, 7, 8, 9, 10, 11, 12, 13, 14, 15, 16, 17, 65534};
+    munasirel_limits odd = {1, 2, 3, 4, 5, 6, 7, 8, 9, 10, 11, 12, 13, 14, 15, 16, 17, 65534, 0, 0, 0, 0}, all = odd;
+    munasirel_limits in_house = munasirel_house();
+    check("house", "the house's table", "table", memcmp(&in_house, &house, sizeof house) == 0);
+    check("house", "the house's table", "rule", munasirel_admit(munasirel_house()) == 0);
+    all.clutch_open_de = 18, all.error_clutch_open_de = 65535, all.clutch_close_de = 256, all.error_clutch_close_de = 21;
     make(K1), tables("no entries", normal);
     make_with(with(17, 4660), K1), tables("eighteen entries", with(17, 4660));
     make_with(odd, ""), tables("a table that is not admitted", odd);
@@ -234,6 +307,16 @@ static void tabling(void)
     make_with(odd, K1), made_length--, tables("a wrong length", odd);
     make_with(odd, ""), made_length--, tables("47 bytes", normal);
     make_with(odd, K1), made[2] = 17, tables("seventeen entries", normal);
+    make_with(all, K1), tables("twenty-two entries", all);
+    make_with(all, ""), tables("twenty-two entries and no record", all);
+    make_with(all, ""), made_length--, tables("55 bytes", normal);
+    make_with(all, K1), made[2] = 18, tables("eighteen of twenty-two", odd);
+    make_with(all, ""), made_length = 48, tables("48 bytes and 22 entries", normal);
+    make_with(all, K1), made[3] = 1, tables("278 entries", normal);
+    for (made[3] = 0, made[2] = 19; made[2] < 22; made[2]++)
+        tables("nineteen to twenty-one entries", normal);
+    make_with_22(normal, K1), tables("twenty-two entries without delays", normal);
+    make_with(house, K1), tables("the house's table", house);
     made_length = 11, tables("11 bytes", normal);
     made_length = 3, tables("3 bytes", normal);
     made_length = 0, tables("nothing", normal);
@@ -283,6 +366,10 @@ static void lining(void)
     make(WOULD_NOT_CLOSE " t9 13"), lines("and a reset", "accepted 16 0 160 0 1 0\n");
     make("13"), lines("a reset at rest", "refused 0 7 0 0 0 0\n");
     make("t0"), lines("a tick of 0", "refused 0 6 0 0 0 0\n");
+    make_with(house, DELAYED), lines("the house's delays", "accepted 20 0 201 0 1 0\n");
+    make_with(house, TO_OPEN " t19 5"), lines("opened too early", "refused 9 9 175 2 0 1\n");
+    make_with(house, TO_CLOSE " t20 6"), lines("failed to close too early", "refused 17 9 201 5 1 40\n");
+    make_with(house_with(19, 20), K1), lines("rule 16", "unread 0 4 0 0 0 0\n");
     ticks(MUNASIREL_MOST_RECORDS, 65535), make_list(NULL), lines("the longest file", "accepted 16372 0 1072939020 0 0 0\n");
 }
 
@@ -390,7 +477,7 @@ static void writes_all(const char *name, const munasirel_limits *table, unsigned
 static void writing(void)
 {
     const struct written good = {0, 0, 0}, full = {15, 0, 0}, unequal = {3, 0, 0}, many = {2, 0, 0};
-    const munasirel_limits bad = with(17, 1404), worse = with(0, 0);
+    const munasirel_limits bad = with(17, 1404), worse = with(0, 0), bad_delays = house_with(19, 20);
     list(K1);
     writes_all("K1 with a table", &normal, 1, 0, good);
     writes_all("K1 with a table, more room", &normal, 255, 9, good);
@@ -425,6 +512,21 @@ static void writing(void)
     list(WOULD_NOT_CLOSE " t9 13 3"), writes_all("a reset", &normal, 1, 0, good);
     list("2 1 1 10 13"), writes_all("steps that the judge refuses", &normal, 1, 0, good);
 
+    /* A table with a delay is written as twenty-two entries, any other as eighteen. */
+    list(K1);
+    writes_all("the house's table", &house, 1, 0, good);
+    writes_all("the house's table, more room", &house, 1, 9, good);
+    writes_all("the house's table, 15", &house, 1, -1, full);
+    writes_all("the house's table, room for eighteen entries", &house, 1, -8, full);
+    writes_all("the house's table, not wished for", &house, 0, 0, good);
+    writes_all("rule 16", &bad_delays, 1, 0, (struct written){4, 0, 16});
+    writes_all("rule 16, not looked at", &bad_delays, 0, 0, good);
+    make_with_22(normal, K1);
+    munasirel_limits read = munasirel_table(made, made_length);
+    writes_all("22 entries without delays, written back", &read, 1, 0, good);
+    check("write", "22 entries without delays, written back", "entries", made[2] == 18 && made[4] == 48);
+    list(K1), make_list(&house), check("write", "the house's table", "entries", made[2] == 22 && made[4] == 56);
+
     list("1 t300");
     writes_all("two steps", &normal, 0, 0, good);
     static const uint8_t two[] = {12, 0, 0, 0, 12, 0, 0, 0, 2, 0, 0, 0, 1, 0, 0, 0, 12, 0, 44, 1};
@@ -439,6 +541,27 @@ static void writing(void)
     writes_all("2 before 4", &bad, 1, 0, many);
     writes("3 before 2", &normal, 0, steps, steps - 1, 0, unequal);
     codes[0] = 14, writes_all("2 before 5", &normal, 0, -9, many);
+
+    /* The most records go by how the table would be written, admitted or not. */
+    const munasirel_limits bad_in_22 = house_with(17, 1404);
+    ticks(MUNASIREL_MOST_RECORDS_22, 65535);
+    writes_all("the longest file of 22 entries", &house, 1, 0, good);
+    writes_all("the longest file of 22 entries, 15", &house, 1, -1, full);
+    writes_all("4, rule 16, as many records as fit", &bad_delays, 1, 0, (struct written){4, 0, 16});
+    writes_all("4, rule 14, as many records as fit", &bad_in_22, 1, 0, (struct written){4, 0, 14});
+    while (steps < MUNASIREL_MOST_RECORDS) {
+        for (unsigned i = 18; i < 22; i++) {
+            munasirel_limits table = with(i, 1);
+            writes_all("one delay alone", &table, 1, 0, steps > MUNASIREL_MOST_RECORDS_22 ? many : (struct written){4, 0, 16});
+        }
+        codes[steps] = 12, amounts[steps] = 1, steps++;
+        writes_all("2, the house's table", &house, 1, 0, many);
+        writes_all("2 before 4, rule 16", &bad_delays, 1, 0, many);
+        writes_all("2 before 4, rule 14", &bad_in_22, 1, 0, many);
+        writes_all("the house's table, not wished for, as many", &house, 0, 0, good);
+        writes_all("4 without delays, as many", &bad, 1, 0, (struct written){4, 0, 14});
+        writes("3 before 2, the house's table", &house, 1, steps, steps - 1, 0, unequal);
+    }
 }
 
 /* ---- munasirel_advance and munasirel_advance_block */
@@ -738,6 +861,70 @@ static void advancing_steps(void)
     refuses_over("13 before 12 and 11", late, 12, 1, 13, 1);
 }
 
+static int opens(uint8_t phase)
+{
+    return phase == 2 || phase == 7 || phase == 11 || phase == 18;
+}
+
+static int closes(uint8_t phase)
+{
+    return phase == 5 || phase == 15 || phase == 16 || phase == 21;
+}
+
+/* The device is good, or failed, in a phase that asks for a delay: from the stage's time on, and before any with 9. */
+static void reports_from(uint8_t phase, unsigned code, unsigned delay)
+{
+    uint8_t stage = code == 5 ? 3 : 4;
+    munasirel_state at = S(1000 + delay, 1, phase, 900, 2, 1000, 7, 0), to = at;
+    to.stage = stage, to.stage_time = at.clock, advances("at the delay", apart, at, code, 0, 0, 0, 0, to);
+    at.clock = to.clock = to.stage_time = 9999, advances("long after the delay", apart, at, code, 0, 0, 0, 0, to);
+    at.clock = 1000 + delay - 1, advances("9, one before the delay", apart, at, code, 0, 0, 9, 1, at);
+    at.clock = 1000, advances("9 by all of the delay", apart, at, code, 0, 0, 9, delay, at);
+    at.clock = 0, advances("9, the stage ahead", apart, at, code, 0, 0, 9, 1000 + delay, at);
+    at.stage_time = UINT32_MAX, advances("9 by more than 32 bits", apart, at, code, 0, 0, 9, UINT32_MAX + (uint64_t)delay, at);
+    at.clock = 500, advances("9, a sum above 32 bits", apart, at, code, 0, 0, 9, UINT32_MAX - 500 + delay, at);
+    at.stage = 1, advances("7 before 9, sent", apart, at, code, 0, 0, 7, 0, at);
+    at.stage = 2, at.gear_box = 2, advances("7 before 9, no box", apart, at, code, 0, 0, 7, 0, at);
+
+    /* With a delay of 0 from the stage's time on still. */
+    at = to = S(9, 0, phase, 0, 2, 9, 0, 0), to.stage = stage, takes("no delay, at the stage's time", at, code, 0, to);
+    at.clock = 8, refuses_over("9 without a delay, the stage ahead", at, code, 0, 9, 1);
+    at.clock = 0, at.stage_time = UINT32_MAX, refuses_over("9 without a delay, far ahead", at, code, 0, 9, UINT32_MAX);
+}
+
+/* In a phase that asks for none, even of a stage ahead. */
+static void reports_at_once(uint8_t phase, unsigned code)
+{
+    munasirel_state at = S(1000, 1, phase, 900, 2, 1000, 7, 0), to = at;
+    to.stage = code == 5 ? 3 : 4, advances("at once", apart, at, code, 0, 0, 0, 0, to);
+    at.stage_time = UINT32_MAX, advances("at once, the stage ahead", apart, at, code, 0, 0, 0, 0, to);
+    takes("at once without delays", at, code, 0, to);
+}
+
+static void advancing_clutches(void)
+{
+    const munasirel_state rest = S(0), working = S(0, 0, 2, 0, 2, 0, 0, 0);
+    for (uint8_t phase = 1; phase < 22; phase++) {
+        munasirel_state at = S(1000, 1, phase, 900, 2, 1000, 7, 0);
+        if (opens(phase)) {
+            reports_from(phase, 5, apart.clutch_open_de), reports_from(phase, 6, apart.error_clutch_open_de);
+        } else if (closes(phase)) {
+            reports_from(phase, 5, apart.clutch_close_de), reports_from(phase, 6, apart.error_clutch_close_de);
+        } else {
+            reports_at_once(phase, 5);
+            if (sets(phase) || releases(phase))
+                reports_at_once(phase, 6);
+            else
+                advances("7, an engine does not fail", apart, at, 6, 0, 0, 7, 0, at);
+        }
+    }
+    advances("4, rule 16", house_with(20, 60), rest, 1, 0, 0, 4, 0, rest);
+    advances("4, rule 16, before 9", house_with(20, 60), working, 5, 0, 0, 4, 0, working);
+    advances("9, ask at 150 with delays", house, S(150, 0, 1, 0, 5, 0, 0, 0), 9, 0, 0, 9, 1, S(150, 0, 1, 0, 5, 0, 0, 0));
+    advances("a tick past the delays", house, working, 12, 0, 150, 0, 0, S(150, 0, 2, 0, 2, 0, 0, 0));
+    advances("12 with delays", house, working, 12, 0, 151, 12, 1, working);
+}
+
 /* The steps in blocks from the start state; their end is the verdict on their file, and its line. */
 static void cuts_file(munasirel_limits table, const char *text)
 {
@@ -848,6 +1035,14 @@ static void advancing_blocks(void)
     cuts_file(normal, WOULD_NOT_CLOSE " 13 13");
     cuts_file(normal, "1 4 5 8 4 5 8 11 2 4 7 t251 9 4 t150 5 8 4 5 8 4 5 8 4 5 8 11 3 4 5 8 4 5 8 11 14");
     cuts_file(normal, "t1 t2 t3 t4 t5 t6 t0");
+    cuts_file(house, DELAYED " 3");
+    cuts_file(house, TO_OPEN " t19 5");
+    cuts_file(house, TO_OPEN " t20 6");
+    cuts_file(house, TO_CLOSE " t19 t1 5 8 11 2 4 7 t251 9 4 t60 6 10 13");
+    cuts_file(house, TO_CLOSE " t59 6 10");
+    cuts_file(apart, TO_OPEN " t21 5 8 4 5 8 4 t83 6");
+    make_block(TO_OPEN " t19 5"), blocks_over("9, opened too early", house, rest, 9, 9, 1, S(175, 0, 2, 151, 2, 156, 0, 0));
+    make_block("6 5"), blocks_over("9 at the first", apart, S(1, 0, 21, 0, 2, 0, 0, 0), 9, 0, 83, S(1, 0, 21, 0, 2, 0, 0, 0));
 }
 
 int main(void)
@@ -861,6 +1056,7 @@ int main(void)
     writing();
     advancing_runs();
     advancing_steps();
+    advancing_clutches();
     advancing_blocks();
     return finish();
 }

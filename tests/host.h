@@ -1,7 +1,7 @@
 /* What the calls of tests/host*.c share: counting, lending between guard bytes, and making step files.
  *
- * Whatever a call is lent lies between guard bytes, and every case looks at them afterwards. What is expected comes from document
- * 01, by hand or by the small file maker below. The known runs are written as they are there: a number is a step, tN a tick. */
+ * Whatever a call is lent lies between guard bytes, and every case looks at them afterwards. What is expected comes from documents 01
+ * and 02, by hand or by the small file maker below. The known runs are written as they are there: a number is a step, tN a tick. */
 #ifndef HOST_H
 #define HOST_H
 
@@ -78,14 +78,24 @@ static inline int kept(const void *address, size_t from)
 }
 
 /* ---- step files, made by hand */
-static const munasirel_limits normal = {5,   100, 200, 150, 150, 300, 200, 150, 250,
-                                        155, 255, 151, 251, 200, 350, 250, 200, 1500};
+static const munasirel_limits normal = {5,   100, 200, 150, 150, 300, 200, 150,  250, 155, 255,
+                                        151, 251, 200, 350, 250, 200, 1500, 0,   0,   0,   0};
+/* The house's table, and one in which no two delays are equal. */
+static const munasirel_limits house = {5,   100, 200, 150, 150, 300, 200, 150,  250, 155, 255,
+                                       151, 251, 200, 350, 250, 200, 1500, 20,  60,  20,  60};
+static const munasirel_limits apart = {5,   100, 200, 150, 150, 300, 200, 150,  250, 155, 255,
+                                       151, 251, 200, 350, 250, 200, 1500, 21,  62,  33,  84};
 static const char *const K1 = "1 t5 4 t100 5 t5 8 4 t300 5 8 11";
 static const char *const K11 = "1 t5 4 t100 5 t5 8 4 t300 5 8 11 3 4 5 8 4 6 10 11";
 /* From neutral, at once. */
 #define IN_GEAR "1 4 5 8 4 5 8 11"
 /* The set order is taken in phase 4, and the clutch will not close in phase 5. */
 #define WOULD_NOT_CLOSE "1 4 7 t151 9 4 5 8 4 5 8 4 6 10"
+/* From neutral by the clutch, as early as the house's table allows: up to the delivery of the open order, at 156 ms, of the close
+ * order, at 181 ms, and whole. */
+#define TO_OPEN "1 t5 4 7 t146 9 t5 4"
+#define TO_CLOSE TO_OPEN " t20 5 8 4 5 8 t5 4"
+#define DELAYED TO_CLOSE " t20 5 8 11"
 
 static uint8_t codes[MUNASIREL_MOST_RECORDS + 1];
 static uint32_t amounts[MUNASIREL_MOST_RECORDS + 1];
@@ -134,21 +144,30 @@ static inline void put_records(size_t from, size_t count)
     }
 }
 
-/* The file of the list, with a table or, where there is none, without. */
-static inline void make_list(const munasirel_limits *table)
+/* The file of the list, with the first k entries of a table. */
+static inline void make_entries(unsigned k, const munasirel_limits *table)
 {
-    uint16_t entries[18];
-    unsigned k = table ? 18 : 0;
+    uint16_t entries[22];
+    memcpy(entries, table, sizeof entries);
     made_length = 0;
     put(12, 2);
     put(k, 2);
     put(12 + 2 * k, 4);
     put(steps, 4);
-    if (table)
-        memcpy(entries, table, sizeof entries);
     for (unsigned i = 0; i < k; i++)
         put(entries[i], 2);
     put_records(0, steps);
+}
+
+/* The same with a table as it is written, in eighteen entries or in twenty-two, or, where there is none, without. */
+static inline void make_list(const munasirel_limits *table)
+{
+    if (!table)
+        make_entries(0, &normal);
+    else if (table->clutch_open_de || table->error_clutch_open_de || table->clutch_close_de || table->error_clutch_close_de)
+        make_entries(22, table);
+    else
+        make_entries(18, table);
 }
 
 static inline void make(const char *text)
@@ -163,14 +182,31 @@ static inline void make_with(munasirel_limits table, const char *text)
     make_list(&table);
 }
 
-static inline munasirel_limits with(unsigned entry, unsigned limit)
+/* With all twenty-two entries, whatever the delays. */
+static inline void make_with_22(munasirel_limits table, const char *text)
 {
-    munasirel_limits table = normal;
-    uint16_t entries[18];
+    list(text);
+    make_entries(22, &table);
+}
+
+/* A table with one entry changed: of any, of the default, and of the house's. */
+static inline munasirel_limits changed(munasirel_limits table, unsigned entry, unsigned limit)
+{
+    uint16_t entries[22];
     memcpy(entries, &table, sizeof entries);
     entries[entry] = (uint16_t)limit;
     memcpy(&table, entries, sizeof table);
     return table;
+}
+
+static inline munasirel_limits with(unsigned entry, unsigned limit)
+{
+    return changed(normal, entry, limit);
+}
+
+static inline munasirel_limits house_with(unsigned entry, unsigned limit)
+{
+    return changed(house, entry, limit);
 }
 
 /* A block of so many records of the list, from a place on; it is made where a file would be. */

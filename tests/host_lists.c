@@ -120,6 +120,11 @@ static void listing(void)
     make(IN_GEAR " 3 4 7 t251 9 4 5 8 4 5 8 4 6 10 13 1");
     lists("to neutral by the clutch, in error", SHIFTS({0, 6, 1, 0, 1, 0, 0}, {8, 21, 3, 1, 2, 0, 251}, {23, 23, 1, 0, 0, 251, 0}));
 
+    /* With delays of the clutch. */
+    make_with(house, DELAYED), lists("the house's delays", SHIFTS({0, 18, 1, 1, 1, 0, 201}));
+    make_with_22(normal, WOULD_NOT_CLOSE), lists("22 entries without delays", SHIFTS({0, 13, 1, 1, 2, 0, 151}));
+    ticks(MUNASIREL_MOST_RECORDS_22, 65535), make_list(&house), lists("the longest file of 22 entries", NO_SHIFTS);
+
     /* The widths of the numbers. */
     ticks(MUNASIREL_MOST_RECORDS, 65535), codes[16000] = 1, amounts[16000] = 0;
     steps = 16001, make_list(NULL), lists("late in the longest file", SHIFTS({16000, 16000, 1, 0, 0, 1048560000, 0}));
@@ -130,14 +135,18 @@ static void listing(void)
     make(K1), made_length = 11, lists_not("1", 1, 0, 0, 0);
     make(K1), made[0] = 13, lists_not("2", 2, 0, 0, 0);
     ticks(MUNASIREL_MOST_RECORDS + 1, 1), make_list(NULL), lists_not("2, 16,373 records", 2, 0, 0, 0);
+    ticks(MUNASIREL_MOST_RECORDS_22 + 1, 1), make_list(&house), lists_not("2, 16,371 records and 22 entries", 2, 0, 0, 0);
     make(K1), made_length--, lists_not("3", 3, 0, 0, 0);
     make_with(with(17, 1404), K1), lists_not("4, rule 14", 4, 14, 0, 0);
+    make_with(house_with(21, 20), K1), lists_not("4, rule 16", 4, 16, 0, 0);
     make_with(with(0, 0), "14"), lists_not("4, rule 1, before 5", 4, 1, 0, 0);
     make(IN_GEAR " 14"), lists_not("5 behind a shift", 5, 0, 8, 0);
     make(IN_GEAR " t0"), lists_not("6 behind a shift", 6, 0, 8, 0);
     make(K11), lists_not("7, K11", 7, 0, 19, 0);
     make("2"), lists_not("8", 8, 0, 0, 0);
     make(IN_GEAR " 3 4 7 t1 9"), lists_not("9 in a shift", 9, 0, 12, 250);
+    make_with(house, TO_OPEN " t19 5"), lists_not("9, opened too early", 9, 0, 9, 1);
+    make_with(house, TO_CLOSE " t20 6"), lists_not("9, failed to close too early", 9, 0, 17, 40);
     make("1 4 7 t200"), lists_not("11 in a shift", 11, 0, 3, 45);
     make("1 t5 t65535"), lists_not("12 in a shift", 12, 0, 2, 65535);
 }
@@ -359,6 +368,33 @@ static void extending_to_the_most(void)
         shifts[i] = (munasirel_shift){(uint16_t)i, (uint16_t)i, 1, 0, 1, 0, 0};
     made_length = 0, lay(&given, shifts, MUNASIREL_MOST_RECORDS), wanted = given;
     extends("the longest list", (struct extension){MUNASIREL_LONGEST_LIST, MUNASIREL_LONGEST_LIST, rest, 16372, normal}, good);
+    struct extension delayed = {MUNASIREL_LONGEST_LIST, MUNASIREL_LONGEST_LIST, rest, 16372, house};
+    extends("the longest list, with delays", delayed, many);
+}
+
+/* The same under a table that has a delay, admitted or not: it would be written as twenty-two entries. */
+static void extending_to_the_most_of_22(void)
+{
+    const struct answered many = {2, 0, 0, 0};
+    struct extension e = {8, 8, S(500, 0, 0, 410, 0, 410, 0, 0), 16370, house};
+    lay(&given, NO_SHIFTS), wanted = given;
+    made_length = 0, extends("16,370 records and none", e, good);
+    made_length = 3, extends("16,370 records and bytes left over", e, good);
+    for (e.count = 16371; e.count < 16373; e.count++)
+        made_length = 0, extends("16,371 or 16,372 records and none", e, many);
+    make_block("t1"), e.count = 16369, extends("16,369 records and one", e, good);
+    e.count = 16370, extends("16,370 records and one", e, many);
+    e.table = normal, extends("16,370 records and one, no delays", e, good);
+    for (unsigned i = 18; i < 22; i++) {
+        e.table = with(i, 1), e.count = 16369, extends("4, one delay alone", e, (struct answered){4, 16, 0, 0});
+        e.count = 16370, extends("2 before 4, one delay alone", e, many);
+        e.table = house_with(i, 0), extends("2 before 4, one delay of 0", e, many);
+    }
+    e.table = house_with(17, 1404), extends("2 before 4, rule 14", e, many);
+    e.table = with(17, 1404), extends("4 without delays", e, (struct answered){4, 14, 0, 0});
+    ticks(MUNASIREL_MOST_RECORDS_22 + 1, 1), cut(0, steps), e.count = 0, e.table = house, extends("16,371 records at once", e, many);
+    cut(0, steps - 1), extends("16,370 records at once", e, good);
+    e.count = 4294967295, extends("the largest count", e, many);
 }
 
 /* The table is tested with or without a record, and the records are judged under it. */
@@ -372,9 +408,12 @@ static void extending_under_tables(void)
     make_block("14"), extends("4 before 5", e, (struct answered){4, 14, 0, 0});
     e.table = with(3, 0), extends("4, rule 1", e, (struct answered){4, 1, 0, 0});
     e.table = with(9, 65535), extends("4, rule 12", e, (struct answered){4, 12, 0, 0});
+    e.table = house_with(18, 60), extends("4, rule 16", e, (struct answered){4, 16, 0, 0});
     make_block("1 t6"), e.table = normal, extends("12 under the default", e, (struct answered){12, 0, 1, 1});
     e.table = with(0, 4), extends("12 under a tighter table", e, (struct answered){12, 0, 1, 2});
     e.table = with(0, 6), lay(&wanted, SHIFTS({0, 1, 1, 0, 0, 0, 6})), extends("accepted under a looser one", e, good);
+    make_block(TO_OPEN " t20 6"), e.table = house, extends("9 with delays", e, (struct answered){9, 0, 9, 40});
+    e.table = normal, lay(&wanted, SHIFTS({0, 9, 1, 1, 0, 0, 176})), extends("accepted without", e, good);
 }
 
 /* Whether state and list fit, without a record. */
@@ -577,6 +616,8 @@ static void extending_at_every_cut(void)
     cuts("K6", normal, "1 4 7 t151 9");
     cuts("K11 without its last", normal, "1 t5 4 t100 5 t5 8 4 t300 5 8 11 3 4 5 8 4 6 10");
     cuts("a looser table", with(0, 6), "1 t6 4 5 t6 8 t6");
+    cuts("the house's delays", house, DELAYED " 2 4 7 t251 9 4 t60 6 10 t1 13 3");
+    cuts("delays that differ", apart, TO_OPEN " t21 5 8 4 5 8 4 t84 6 10");
     cuts("a reset", normal, WOULD_NOT_CLOSE " t9 13 t2 3 t5 4 5 8 4 6 10 13 2 t4 t1");
     cuts("gear to gear", normal,
          "t8 " IN_GEAR " t1 2 4 7 t251 9 4 t150 5 8 4 5 8 4 5 8 4 5 8 t2 11 2 4 5 8 4 5 8 4 7 t151 9 4 5 8 4 5 8 4 5 8 t3 t4 11 t5 "
@@ -591,6 +632,7 @@ int main(void)
     extending_in_order();
     extending_odd_lists();
     extending_to_the_most();
+    extending_to_the_most_of_22();
     extending_under_tables();
     fitting();
     extending_by_refused();

@@ -90,6 +90,23 @@ static void manual(void)
     both("what is refused", normal, "14 13 0 t0 2 1 1 8 9 10 11 t156 t6 4 t101 6 9 7 9 t151 9 t6 4 t151 6 10 10 11 t65535");
     both("a table that is not admitted", with(0, 0), "1 t5 13 14");
 
+    /* With delays of the clutch; what is too early is refused, and the next record is tried on the same variables. */
+    v = both("the house's delays", house, DELAYED);
+    check("m9", "the house's delays", "flags", flags_up(&v) == 0 && !v.isNeu && v.time == 201);
+    v = both("opened too early", house, TO_OPEN " 5 t19 5 6 t1 6 5");
+    check("m9", "opened too early", "flags", v.Clutch_Open && !v.Error_Clutch_Open && v.Clutch_OpenT == 176);
+    v = both("failed to open too early", apart, TO_OPEN " t61 6 t1 6");
+    check("m9", "failed to open too early", "flags", v.Error_Clutch_Open && !v.Clutch_Open && v.time == 218);
+    v = both("closed too early", apart, TO_OPEN " t21 5 8 4 5 8 4 t32 5 6 t1 5");
+    check("m9", "closed too early", "flags", v.Clutch_Close && !v.Error_Clutch_Close && v.Clutch_CloseT == 210);
+    v = both("failed to close too early", house, TO_CLOSE " t59 6 t1 6 10 13");
+    check("m9", "failed to close too early", "flags", flags_up(&v) == 0 && v.time == 241);
+    both("delays on every route", apart,
+         TO_OPEN " t21 5 8 4 5 8 4 t32 5 t1 5 8 11 2 4 7 t251 9 4 5 t20 5 t1 5 8 4 5 8 4 5 8 4 5 6 t33 5 8 11 "
+         "2 4 5 8 4 5 8 4 7 t151 9 4 t20 5 6 t1 5 8 4 5 8 4 t32 5 t51 6 t1 6 10 13 3 4 7 t251 9 4 t61 6 t1 6 10 13");
+    both("to neutral with delays", apart, IN_GEAR " 3 4 7 t251 9 4 5 6 t21 6 5 8 4 5 8 4 5 6 t33 6 5 8 11");
+    both("rule 16", house_with(18, 60), "1 t5 13 14");
+
     /* Every variable goes in and comes out, in a record that is refused. */
     unsigned k = 0;
 #define NUMBERED(name) v.name = 1000 + k++;

@@ -1,6 +1,6 @@
 -- Laws on numbered checks: what an answer of `first` tells of the list, and how the answer is found.
 -- Assumes nothing.
-use mathlib.Core.Path.{_≡_, refl, sym, _∙_}
+use mathlib.Core.Path.{_≡_, refl, sym, ap, _∙_}
 use mathlib.Core.Bool.{Bool, true, false, not, _&&_, cond}
 use mathlib.Core.Logic.{_⊎_, inl, inr, ⊎-elim}
 use mathlib.Core.List.{List, [], _∷_, _++_, append-nil}
@@ -82,6 +82,11 @@ first-left (c ∷ cs) ys h = same (c .ok) (first (cs ++ ys)) (first cs) (c .numb
 pub first-right : (xs ys : List Check) → Holds xs → first (xs ++ ys) ≡ first ys
 first-right [] ys h = refl
 first-right (c ∷ cs) ys h = holding (c .ok) (first (cs ++ ys)) (c .number) (first ys) (h .0) (first-right cs ys (h .1))
+
+-- a second part that holds adds nothing
+pub first-alone : (xs ys : List Check) → first ys ≡ 0 → first (xs ++ ys) ≡ first xs
+first-alone [] ys h = h
+first-alone (c ∷ cs) ys h = ap (λ m. cond (c .ok) m (c .number)) (first-alone cs ys h)
 
 -- the same of an answer that was found: of the first part where it is a number, of the second where the first part answers 0
 pub found-left : {k : ℕ} (xs ys : List Check) → k ≡ first xs → ¬ (k ≡ 0) → k ≡ first (xs ++ ys)

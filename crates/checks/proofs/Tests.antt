@@ -50,3 +50,8 @@ both false b s t = s
 pub either : (a b : Bool) → T (a || b) → T a ⊎ T b
 either true b t = inl tt
 either false b t = inr t
+
+pub one-of : (a b : Bool) → T a ⊎ T b → T (a || b)
+one-of true b h = tt
+one-of false b (inl n) = absurd n
+one-of false b (inr h) = h

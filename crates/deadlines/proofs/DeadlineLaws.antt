@@ -171,7 +171,7 @@ module _ (t : Table) (s : State) where
       (now : ℕ) → deadline t s < now
       → (let device = deviceLimit t (orderOf (s .phase)) in
       let k = lateBy device (t .«channel_dl») s now in
-      overBy (phaseEnd t s) device (t .«channel_dl») s now k ≡ excessBy t s now k)
+      overBy (phaseEnd t s) device (t .«channel_dl») s now k ≡ excessBy t s 0 now k)
   so-far-over now h =
       let end = stage-end 4294967295 (stageBound t s) (phaseBound t s) now (limited s) in
       let phase-is = phase-end 4294967295 (stageBound t s) (phaseBound t s) now (limited s) shifting in

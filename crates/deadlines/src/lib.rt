@@ -14,7 +14,7 @@ use times::beyond;
 use times::bound;
 
 // The last clock by the largest one and by the limit of the phase, from a table's entries.
-pub fn phase_end(state: State, entries: &[u16; 18]) -> u64
+pub fn phase_end(state: State, entries: &[u16; 22]) -> u64
     ensures { λ r. ⌜ r ≡ phaseEnd (tableOf (now (entries .entry))) state ⌝ }
 {
     let phase = state.phase;
@@ -26,7 +26,7 @@ pub fn phase_end(state: State, entries: &[u16; 18]) -> u64
 }
 
 // The device limit of the phase, from a table's entries.
-pub fn device_limit(state: State, entries: &[u16; 18]) -> u16
+pub fn device_limit(state: State, entries: &[u16; 22]) -> u16
     ensures { λ r. ⌜ r ≡ deviceLimit (tableOf (now (entries .entry))) (orderOf (state .phase)) ⌝ }
 {
     entry_at(entries, device_entry(order_of(state.phase)))

@@ -5,11 +5,19 @@ use Rattle.checks.specs.Determined.{Determined}
 use Rattle.limits.proofs.Table.broken_rule.Reads as broken-rule-reads
 use Rattle.limits.proofs.Table.default.Reads as default-reads
 use Rattle.limits.proofs.Table.entries.Reads as entries-reads
+use Rattle.limits.proofs.Table.house.Reads as house-reads
+use Rattle.limits.proofs.Table.is_undelayed.Reads as is-undelayed-reads
 use Rattle.limits.proofs.Table.of.Reads as of-reads
 use Rattle.limits.proofs.entry_at.Reads as entry-at-reads
 
 pub default : Determined default-reads.Post
 default κs a x y at at′ p q = p ∙ sym q
+
+pub house : Determined house-reads.Post
+house κs a x y at at′ p q = p ∙ sym q
+
+pub is-undelayed : Determined is-undelayed-reads.Post
+is-undelayed κs a x y at at′ p q = p ∙ sym q
 
 pub broken-rule : Determined broken-rule-reads.Post
 broken-rule κs a x y at at′ p q = p ∙ sym q

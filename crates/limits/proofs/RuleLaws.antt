@@ -6,7 +6,7 @@ use mathlib.Core.List.{List, [], _∷_}
 use Prim.Native.Nat.{ℕ}
 use lib.Dec.{leb}
 use Rattle.limits.specs.declared.Table.{Table}
-use Rattle.limits.specs.Limits.{entries}
+use Rattle.limits.specs.Limits.{limits}
 use Rattle.limits.specs.Rules.{atLeast1}
 
 -- the test so far, and of each number of the list
@@ -18,5 +18,5 @@ all-tested : (b : Bool) (xs : List ℕ) → tested b xs ≡ b && atLeast1 xs
 all-tested b [] = sym (and-true b)
 all-tested b (x ∷ xs) = all-tested (b && leb 1 x) xs ∙ and-assoc b (leb 1 x) (atLeast1 xs)
 
-pub entries-tested : (t : Table) → tested true (entries t) ≡ atLeast1 (entries t)
-entries-tested t = all-tested true (entries t)
+pub limits-tested : (t : Table) → tested true (limits t) ≡ atLeast1 (limits t)
+limits-tested t = all-tested true (limits t)

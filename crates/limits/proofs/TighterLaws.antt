@@ -11,3 +11,9 @@ module _ (t u : Table) (l : NowhereTighter t u) where
 
   pub sooner-asks : (u .«sync_de» ≤ t .«sync_de») × (u .«zero_de» ≤ t .«zero_de»)
   sooner-asks = omega arith
+
+  -- the delays of the clutch, plain and error, opening and closing
+  pub sooner-reports :
+      (u .«clutch_open_de» ≤ t .«clutch_open_de») × (u .«error_clutch_open_de» ≤ t .«error_clutch_open_de»)
+      × (u .«clutch_close_de» ≤ t .«clutch_close_de») × (u .«error_clutch_close_de» ≤ t .«error_clutch_close_de»)
+  sooner-reports = omega arith

@@ -1,13 +1,16 @@
--- Document 01, "The limit table": the eighteen entries by number, the default table, and the sums of the routes.
+-- Document 01, "The limit table", with the four delays of document 02's request 6: the entries by number, the default table and the
+-- house's, and the sums of the routes.
 -- Assumes nothing.
-use mathlib.Core.List.{List, [], _∷_}
+use mathlib.Core.Bool.{Bool, _&&_}
+use mathlib.Core.List.{List, [], _∷_, _++_}
 use Prim.Native.Nat.{ℕ, _+_}
+use lib.Dec.{eqb}
 use lib.ListN.{getD}
 use Rattle.limits.specs.declared.Table.{Table}
 
 -- entries 0 to 17
-abbrev pub entries : Table → List ℕ
-entries t =
+abbrev pub limits : Table → List ℕ
+limits t =
     t .«channel_dl»
     ∷ t .«engine_sync_dl»
     ∷ t .«engine_zero_dl»
@@ -28,10 +31,26 @@ entries t =
     ∷ t .«change_dl»
     ∷ []
 
+-- entries 18 to 21: the delays of the clutch, plain and error, opening and closing
+abbrev pub delays : Table → List ℕ
+delays t =
+    t .«clutch_open_de» ∷ t .«error_clutch_open_de» ∷ t .«clutch_close_de» ∷ t .«error_clutch_close_de» ∷ []
+
+-- entries 0 to 21
+abbrev pub entries : Table → List ℕ
+entries t = limits t ++ delays t
+
 abbrev pub entry : Table → ℕ → ℕ
 entry t i = getD (entries t) i 0
 
--- the table of eighteen entries
+-- all four delays are 0
+abbrev pub undelayed : Table → Bool
+undelayed t =
+    eqb (t .«clutch_open_de») 0
+    && (eqb (t .«error_clutch_open_de») 0
+    && (eqb (t .«clutch_close_de») 0 && eqb (t .«error_clutch_close_de») 0))
+
+-- the table of these entries; one that is not there is 0, so that eighteen are followed by four zeros
 abbrev pub tableOf : List ℕ → Table
 tableOf es = record {
   «channel_dl» = getD es 0 0;
@@ -52,12 +71,20 @@ tableOf es = record {
   «release_dl» = getD es 15 0;
   «close_clutch_dl» = getD es 16 0;
   «change_dl» = getD es 17 0;
+  «clutch_open_de» = getD es 18 0;
+  «error_clutch_open_de» = getD es 19 0;
+  «clutch_close_de» = getD es 20 0;
+  «error_clutch_close_de» = getD es 21 0;
 }
 
--- entries 0 to 17 by default
+-- entries 0 to 17 by default; its four delays are 0
 abbrev pub default : Table
 default =
     tableOf (5 ∷ 100 ∷ 200 ∷ 150 ∷ 150 ∷ 300 ∷ 200 ∷ 150 ∷ 250 ∷ 155 ∷ 255 ∷ 151 ∷ 251 ∷ 200 ∷ 350 ∷ 250 ∷ 200 ∷ 1500 ∷ [])
+
+-- the house values: the default with delays
+abbrev pub house : Table
+house = tableOf (limits default ++ (20 ∷ 60 ∷ 20 ∷ 60 ∷ []))
 
 -- the four route sums
 abbrev pub sumF : Table → ℕ

@@ -1,6 +1,8 @@
--- Document 01, "The limit table", a second time: the default by name, the fifteen rules as statements, when a table is admitted, and
--- which rule it breaks. It shares no definition with Limits.antt and Rules.antt.
+-- Document 01, "The limit table", and document 02's request 6, a second time: the default and the house's table by name, the sixteen
+-- rules as statements, when a table is admitted, and which rule it breaks. It shares no definition with Limits.antt and Rules.antt.
 -- Assumes nothing.
+use mathlib.Core.Path.{_≡_}
+use mathlib.Core.Logic.{_⊎_}
 use mathlib.Core.List.{List, [], _∷_}
 use Prim.Native.Nat.{ℕ, suc, _+_, _*_, _≤_, _<_}
 use Rattle.checks.specs.Conditions.{Condition, _else_}
@@ -26,6 +28,36 @@ byDefault = record {
   «release_dl» = 250;
   «close_clutch_dl» = 200;
   «change_dl» = 1500;
+  «clutch_open_de» = 0;
+  «error_clutch_open_de» = 0;
+  «clutch_close_de» = 0;
+  «error_clutch_close_de» = 0;
+}
+
+abbrev pub byHouse : Table
+byHouse = record {
+  «channel_dl» = 5;
+  «engine_sync_dl» = 100;
+  «engine_zero_dl» = 200;
+  «clutch_open_dl» = 150;
+  «clutch_close_dl» = 150;
+  «gear_set_dl» = 300;
+  «gear_release_dl» = 200;
+  «sync_ex» = 150;
+  «zero_ex» = 250;
+  «sync_dl» = 155;
+  «zero_dl» = 255;
+  «sync_de» = 151;
+  «zero_de» = 251;
+  «open_clutch_dl» = 200;
+  «set_gear_dl» = 350;
+  «release_dl» = 250;
+  «close_clutch_dl» = 200;
+  «change_dl» = 1500;
+  «clutch_open_de» = 20;
+  «error_clutch_open_de» = 60;
+  «clutch_close_de» = 20;
+  «error_clutch_close_de» = 60;
 }
 
 -- all of a list of statements
@@ -33,7 +65,7 @@ abbrev pub All : List (Type 0) → Type 0
 All [] = Unit {0}
 All (P ∷ Ps) = P × All Ps
 
--- rule 1: every entry is at least 1
+-- rule 1: each of the first eighteen entries is at least 1
 abbrev pub positive : Table → List (Type 0)
 positive t =
     (1 ≤ t .«channel_dl»)
@@ -56,7 +88,22 @@ positive t =
     ∷ (1 ≤ t .«change_dl»)
     ∷ []
 
--- rules 1 to 15
+-- rule 16: no delay at all, or delays of both clutch orders
+pub record NoDelays (t : Table) : Type 0 where
+  pub plain-open : t .«clutch_open_de» ≡ 0
+  pub error-open : t .«error_clutch_open_de» ≡ 0
+  pub plain-close : t .«clutch_close_de» ≡ 0
+  pub error-close : t .«error_clutch_close_de» ≡ 0
+
+pub record BothDelayed (t : Table) : Type 0 where
+  pub plain-open : 1 ≤ t .«clutch_open_de»
+  pub plain-close : 1 ≤ t .«clutch_close_de»
+  pub exceeds-open : t .«clutch_open_de» < t .«error_clutch_open_de»
+  pub exceeds-close : t .«clutch_close_de» < t .«error_clutch_close_de»
+  pub within-open : t .«error_clutch_open_de» ≤ t .«clutch_open_dl»
+  pub within-close : t .«error_clutch_close_de» ≤ t .«clutch_close_dl»
+
+-- rules 1 to 16
 abbrev pub rulesStated : Table → List (Type 0)
 rulesStated t =
     let ch = t .«channel_dl» in
@@ -77,6 +124,7 @@ rulesStated t =
     ∷ (t .«zero_dl» + t .«open_clutch_dl» + t .«release_dl» + t .«close_clutch_dl» ≤ change)
     ∷ (t .«zero_ex» + t .«release_dl» + f ≤ change)
     ∷ (t .«zero_dl» + t .«open_clutch_dl» + t .«release_dl» + t .«set_gear_dl» + t .«close_clutch_dl» ≤ change)
+    ∷ (NoDelays t ⊎ BothDelayed t)
     ∷ []
 
 abbrev pub Admitted : Table → Type 0

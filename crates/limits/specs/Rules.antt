@@ -1,20 +1,21 @@
--- Document 01, "The limit table": the fifteen rules of admission, and the number of the first that a table breaks.
+-- Document 01, "The limit table": the rules of admission, with document 02's rule 16, and the number of the first that a table
+-- breaks.
 -- Assumes nothing.
-use mathlib.Core.Bool.{Bool, true, _&&_}
+use mathlib.Core.Bool.{Bool, true, _&&_, _||_}
 use mathlib.Core.List.{List, [], _∷_, _++_}
 use Prim.Native.Nat.{ℕ, _+_, _*_}
 use lib.Dec.{leb, ltb}
 use Rattle.checks.specs.Checks.{first, numbered}
 use Rattle.limits.specs.declared.Table.{Table}
-use Rattle.limits.specs.Limits.{entries, sumF, sumN, sumG1, sumG2}
+use Rattle.limits.specs.Limits.{limits, undelayed, sumF, sumN, sumG1, sumG2}
 
--- rule 1: every entry is at least 1
+-- rule 1: each of the first eighteen entries is at least 1
 abbrev pub atLeast1 : List ℕ → Bool
 atLeast1 [] = true
 atLeast1 (x ∷ xs) = leb 1 x && atLeast1 xs
 
 abbrev pub setRule : Table → List Bool
-setRule t = atLeast1 (entries t) ∷ []
+setRule t = atLeast1 (limits t) ∷ []
 
 -- rules 2 and 3: both ways over the channel and the engine's limit within its EX
 abbrev pub engineRules : Table → List Bool
@@ -50,9 +51,21 @@ routeRules t =
     ∷ leb (sumG2 t) (t .«change_dl»)
     ∷ []
 
--- rules 1 to 15
+-- rule 16: either all four delays are 0, or both plain ones are at least 1, and each error delay exceeds its plain one and is at most
+-- its device limit
+abbrev pub waits : ℕ → ℕ → ℕ → Bool
+waits plain error device = leb 1 plain && (ltb plain error && leb error device)
+
+abbrev pub delayRules : Table → List Bool
+delayRules t =
+    (undelayed t
+    || (waits (t .«clutch_open_de») (t .«error_clutch_open_de») (t .«clutch_open_dl»)
+    && waits (t .«clutch_close_de») (t .«error_clutch_close_de») (t .«clutch_close_dl»)))
+    ∷ []
+
+-- rules 1 to 16
 abbrev pub rules : Table → List Bool
-rules t = setRule t ++ (engineRules t ++ (deviceRules t ++ (askRules t ++ routeRules t)))
+rules t = setRule t ++ (engineRules t ++ (deviceRules t ++ (askRules t ++ (routeRules t ++ delayRules t))))
 
 -- 0: the table is admitted; else the number of the first broken rule
 abbrev pub brokenRule : Table → ℕ

@@ -1,11 +1,13 @@
-// The limit table of document 01: eighteen limits, the default table, and the first rule that a table breaks.
+// The limit table of document 01 with document 02's delays of the clutch: twenty-two entries, the default table, the house's, and the
+// first rule that a table breaks.
 ghost use mathlib.Core.Path.{_≡_};
+ghost use mathlib.Core.Bool.{false};
 ghost use Prim.Native.Nat.{_+_, _*_, _≤_};
 ghost use Rattle.checks.specs.Checks.{first, numbered};
-ghost use Rattle.limits.specs.Limits.{default, entries, entry, tableOf};
-ghost use Rattle.limits.specs.Rules.{atLeast1, engineRules, deviceRules, askRules, routeRules, brokenRule};
+ghost use Rattle.limits.specs.Limits.{default, house, limits, entries, undelayed, entry, tableOf};
+ghost use Rattle.limits.specs.Rules.{atLeast1, engineRules, deviceRules, askRules, routeRules, waits, delayRules, brokenRule};
 
-// The limits under the manual's names, in milliseconds, in the order of their entry numbers 0 to 17.
+// The limits under the manual's names, in milliseconds, in the order of their entry numbers 0 to 21.
 #[repr(C)]
 pub struct Table {
     pub channel_dl: u16,
@@ -26,6 +28,10 @@ pub struct Table {
     pub release_dl: u16,
     pub close_clutch_dl: u16,
     pub change_dl: u16,
+    pub clutch_open_de: u16,
+    pub error_clutch_open_de: u16,
+    pub clutch_close_de: u16,
+    pub error_clutch_close_de: u16,
 }
 
 impl Table {
@@ -52,11 +58,46 @@ impl Table {
             release_dl: 250,
             close_clutch_dl: 200,
             change_dl: 1500,
+            clutch_open_de: 0,
+            error_clutch_open_de: 0,
+            clutch_close_de: 0,
+            error_clutch_close_de: 0,
         }
     }
 
-    // The table of eighteen entries.
-    pub fn of(entries: [u16; 18]) -> Table
+    // The house's table for the clutch unit that reports before its plates part: the default with delays.
+    pub fn house() -> Table
+        ensures { λ r. ⌜ r ≡ house ⌝ }
+    {
+        let limits = Table::default();
+        Table {
+            channel_dl: limits.channel_dl,
+            engine_sync_dl: limits.engine_sync_dl,
+            engine_zero_dl: limits.engine_zero_dl,
+            clutch_open_dl: limits.clutch_open_dl,
+            clutch_close_dl: limits.clutch_close_dl,
+            gear_set_dl: limits.gear_set_dl,
+            gear_release_dl: limits.gear_release_dl,
+            sync_ex: limits.sync_ex,
+            zero_ex: limits.zero_ex,
+            sync_dl: limits.sync_dl,
+            zero_dl: limits.zero_dl,
+            sync_de: limits.sync_de,
+            zero_de: limits.zero_de,
+            open_clutch_dl: limits.open_clutch_dl,
+            set_gear_dl: limits.set_gear_dl,
+            release_dl: limits.release_dl,
+            close_clutch_dl: limits.close_clutch_dl,
+            change_dl: limits.change_dl,
+            clutch_open_de: 20,
+            error_clutch_open_de: 60,
+            clutch_close_de: 20,
+            error_clutch_close_de: 60,
+        }
+    }
+
+    // The table of twenty-two entries.
+    pub fn of(entries: [u16; 22]) -> Table
         ensures { λ r. ⌜ r ≡ tableOf entries ⌝ }
     {
         Table {
@@ -78,11 +119,15 @@ impl Table {
             release_dl: entries[15],
             close_clutch_dl: entries[16],
             change_dl: entries[17],
+            clutch_open_de: entries[18],
+            error_clutch_open_de: entries[19],
+            clutch_close_de: entries[20],
+            error_clutch_close_de: entries[21],
         }
     }
 
-    // The eighteen entries of the table, in their order.
-    pub fn entries(self) -> [u16; 18]
+    // The twenty-two entries of the table, in their order.
+    pub fn entries(self) -> [u16; 22]
         ensures { λ r. ⌜ r ≡ entries self ⌝ }
     {
         [
@@ -104,6 +149,10 @@ impl Table {
             self.release_dl,
             self.close_clutch_dl,
             self.change_dl,
+            self.clutch_open_de,
+            self.error_clutch_open_de,
+            self.clutch_close_de,
+            self.error_clutch_close_de,
         ]
     }
 
@@ -126,7 +175,15 @@ impl Table {
         if number != 0 {
             return number;
         }
-        self.broken_route_rule()
+        let number = self.broken_route_rule();
+        if number != 0 {
+            return number;
+        }
+        // Most tables have no delays; asked here, it spares them a call.
+        if self.is_undelayed() {
+            return 0;
+        }
+        self.broken_delay_rule()
     }
 
     // Rules 2 and 3, or 0.
@@ -207,9 +264,40 @@ impl Table {
         0
     }
 
-    // Every entry is at least 1.
+    // Rule 16 of a table with delays, or 0.
+    fn broken_delay_rule(self) -> u8
+        requires { ⌜ undelayed self ≡ false ⌝ }
+        ensures { λ r. ⌜ r ≡ first (numbered 16 (delayRules self)) ⌝ }
+    {
+        if !waits(
+            self.clutch_open_de,
+            self.error_clutch_open_de,
+            self.clutch_open_dl,
+        ) {
+            return 16;
+        }
+        if !waits(
+            self.clutch_close_de,
+            self.error_clutch_close_de,
+            self.clutch_close_dl,
+        ) {
+            return 16;
+        }
+        0
+    }
+
+    // All four delays are 0.
+    pub fn is_undelayed(self) -> bool
+        ensures { λ r. ⌜ r ≡ undelayed self ⌝ }
+    {
+        (self.clutch_open_de == 0)
+            & ((self.error_clutch_open_de == 0)
+                & ((self.clutch_close_de == 0) & (self.error_clutch_close_de == 0)))
+    }
+
+    // Each of the first eighteen entries is at least 1.
     fn is_set(self) -> bool
-        ensures { λ r. ⌜ r ≡ atLeast1 (entries self) ⌝ }
+        ensures { λ r. ⌜ r ≡ atLeast1 (limits self) ⌝ }
     {
         (1 <= self.channel_dl)
             & (1 <= self.engine_sync_dl)
@@ -233,13 +321,20 @@ impl Table {
 }
 
 // The entry of this number, 0 where there is none.
-pub fn entry_at(entries: &[u16; 18], number: usize) -> u16
+pub fn entry_at(entries: &[u16; 22], number: usize) -> u16
     ensures { λ r. ⌜ r ≡ entry (tableOf (now (entries .entry))) number ⌝ }
 {
-    if number < 18 {
+    if number < 22 {
         return entries[number];
     }
     0
+}
+
+// A clutch order waits: its plain delay is at least 1, and its error delay beyond that and within the device's limit.
+fn waits(plain: u16, error: u16, device: u16) -> bool
+    ensures { λ r. ⌜ r ≡ waits plain error device ⌝ }
+{
+    (1 <= plain) & ((plain < error) & (error <= device))
 }
 
 // Both ways over the channel, and a limit.

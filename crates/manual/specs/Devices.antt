@@ -1,13 +1,16 @@
--- Machine m9: engine, clutch and gear, in the manual's order and under its labels. What document 01 settles is marked on its line.
+-- Machine m9: engine, clutch and gear, in the manual's order and under its labels. What documents 01 and 02 settle is marked on its line.
 -- Assumes nothing.
 use mathlib.Core.Bool.{not, _||_}
 use mathlib.Core.List.{[], _∷_}
+use Prim.Native.Nat.{_+_, _-_}
+use lib.Dec.{leb}
 use Rattle.checks.specs.Checks.{_!_}
+use Rattle.limits.specs.declared.Table.{Table}
 use Rattle.manual.specs.declared.Variables.{Variables}
 use Rattle.manual.specs.declared.Event.{Event}
 use Rattle.manual.specs.Names.{Flag, Time}
 use Rattle.manual.specs.Variables.{raise, stamp}
-use Rattle.manual.specs.Events.{event}
+use Rattle.manual.specs.Events.{timed, event}
 
 abbrev pub «Engine_Request_SyncSpeed» : Variables → Event
 «Engine_Request_SyncSpeed» v =
@@ -88,24 +91,31 @@ abbrev pub «Clutch_Request_Open» : Variables → Event
     ∷ [])
     v
 
-abbrev pub «Clutch_Open» : Variables → Event
-«Clutch_Open» v =
-    event
+-- Request 6: a clutch reports no earlier than its delay after its order was delivered. The decomposed machine Clutch1 prints these
+-- guards as grd4, but those of closing from Clutch_Request_OpenT.
+
+abbrev pub «Clutch_Open» : Table → Variables → Event
+«Clutch_Open» t v =
+    timed
+    ((v .«Clutch_Request_OpenT» + t .«clutch_open_de») - v .time)  -- before 02
     ((v .«Clutch_Request_Open» ! 7)  -- grd1
     ∷ (not (v .«Clutch_Open») ! 7)  -- grd2
     ∷ (not (v .«Error_Clutch_Open») ! 7)  -- grd3
+    ∷ (leb (v .«Clutch_Request_OpenT» + t .«clutch_open_de») (v .time) ! 9)  -- 02: request 6, the delay from delivery; not printed
     ∷ [])
     (raise Flag.«Clutch_Open»  -- act1
     ∷ stamp Time.«Clutch_OpenT»  -- act2
     ∷ [])
     v
 
-abbrev pub «Error_Clutch_Open» : Variables → Event
-«Error_Clutch_Open» v =
-    event
+abbrev pub «Error_Clutch_Open» : Table → Variables → Event
+«Error_Clutch_Open» t v =
+    timed
+    ((v .«Clutch_Request_OpenT» + t .«error_clutch_open_de») - v .time)  -- before 02
     ((v .«Clutch_Request_Open» ! 7)  -- grd1
     ∷ (not (v .«Clutch_Open») ! 7)  -- grd2
     ∷ (not (v .«Error_Clutch_Open») ! 7)  -- grd3
+    ∷ (leb (v .«Clutch_Request_OpenT» + t .«error_clutch_open_de») (v .time) ! 9)  -- 02: request 6, the delay from delivery; not printed
     ∷ [])
     (raise Flag.«Error_Clutch_Open»  -- act1
     ∷ [])
@@ -122,24 +132,28 @@ abbrev pub «Clutch_Request_Close» : Variables → Event
     ∷ [])
     v
 
-abbrev pub «Clutch_Close» : Variables → Event
-«Clutch_Close» v =
-    event
+abbrev pub «Clutch_Close» : Table → Variables → Event
+«Clutch_Close» t v =
+    timed
+    ((v .«Clutch_Request_CloseT» + t .«clutch_close_de») - v .time)  -- before 02
     ((v .«Clutch_Request_Close» ! 7)  -- grd1
     ∷ (not (v .«Clutch_Close») ! 7)  -- grd2
     ∷ (not (v .«Error_Clutch_Close») ! 7)  -- grd3
+    ∷ (leb (v .«Clutch_Request_CloseT» + t .«clutch_close_de») (v .time) ! 9)  -- 02: request 6, the delay from delivery; not printed
     ∷ [])
     (raise Flag.«Clutch_Close»  -- act1
     ∷ stamp Time.«Clutch_CloseT»  -- act2
     ∷ [])
     v
 
-abbrev pub «Error_Clutch_Close» : Variables → Event
-«Error_Clutch_Close» v =
-    event
+abbrev pub «Error_Clutch_Close» : Table → Variables → Event
+«Error_Clutch_Close» t v =
+    timed
+    ((v .«Clutch_Request_CloseT» + t .«error_clutch_close_de») - v .time)  -- before 02
     ((v .«Clutch_Request_Close» ! 7)  -- grd1
     ∷ (not (v .«Clutch_Close») ! 7)  -- grd2
     ∷ (not (v .«Error_Clutch_Close») ! 7)  -- grd3
+    ∷ (leb (v .«Clutch_Request_CloseT» + t .«error_clutch_close_de») (v .time) ! 9)  -- 02: request 6, the delay from delivery; not printed
     ∷ [])
     (raise Flag.«Error_Clutch_Close»  -- act1
     ∷ [])

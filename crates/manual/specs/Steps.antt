@@ -27,22 +27,22 @@ deliver v =
     ∷ «Gear_Request_Set» v
     ∷ [])
 
-abbrev pub deviceGood : Variables → Event
-deviceGood v =
+abbrev pub deviceGood : Table → Variables → Event
+deviceGood t v =
     firstOf
     («Engine_SyncSpeed» v)
     («Engine_ZeroTorque» v
-    ∷ «Clutch_Open» v
-    ∷ «Clutch_Close» v
+    ∷ «Clutch_Open» t v
+    ∷ «Clutch_Close» t v
     ∷ «Gear_Release» v
     ∷ «Gear_Set» v
     ∷ [])
 
-abbrev pub deviceFailed : Variables → Event
-deviceFailed v =
+abbrev pub deviceFailed : Table → Variables → Event
+deviceFailed t v =
     firstOf
-    («Error_Clutch_Open» v)
-    («Error_Clutch_Close» v
+    («Error_Clutch_Open» t v)
+    («Error_Clutch_Close» t v
     ∷ «Error_Gear_Release» v
     ∷ «Error_Gear_Set» v
     ∷ [])
@@ -143,8 +143,8 @@ stepped t v FromNeutral = RequestFromNeu v
 stepped t v GearToGear = RequestNoNeu v
 stepped t v ToNeutral = RequestToNeu v
 stepped t v Deliver = deliver v
-stepped t v DeviceGood = deviceGood v
-stepped t v DeviceFailed = deviceFailed v
+stepped t v DeviceGood = deviceGood t v
+stepped t v DeviceFailed = deviceFailed t v
 stepped t v EngineWaits = engineWaits v
 stepped t v Take = take t v
 stepped t v AskClutch = askClutch t v

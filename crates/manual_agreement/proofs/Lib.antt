@@ -3,3 +3,4 @@ pub mod Joined
 pub mod Readings
 pub mod Agreement
 pub mod Calls
+pub mod Looser

@@ -4,8 +4,11 @@ ghost use Rattle.manual.specs.Requests.{RequestFromNeu, RequestNoNeu, RequestTo
 ghost use Rattle.manual.specs.Devices.{«Engine_Request_SyncSpeed», «Engine_SyncSpeed», «Engine_WaitForSyncClutch», «Engine_Request_ZeroTorque», «Engine_ZeroTorque», «Engine_WaitForZeroClutch», «Clutch_Request_Open», «Clutch_Open», «Error_Clutch_Open», «Clutch_Request_Close», «Clutch_Close», «Error_Clutch_Close», «Gear_Request_Release», «Gear_Release», «Error_Gear_Release», «Gear_Request_Set», «Gear_Set», «Error_Gear_Set»};
 ghost use Rattle.manual.specs.Final.{FINAL};
 ghost use Rattle.manual.specs.Reset.{RESET};
+use limits::Table;
 use manual::Event;
 use manual::Variables;
+use manual::early;
+use manual::early_by;
 use manual::on_side;
 
 pub fn RequestFromNeu(mut v: Variables) -> Event
@@ -169,33 +172,37 @@ pub fn Clutch_Request_Open(mut v: Variables) -> Event
     }
 }
 
-pub fn Clutch_Open(mut v: Variables) -> Event
-    ensures { λ r. ⌜ r ≡ «Clutch_Open» v ⌝ }
+pub fn Clutch_Open(mut v: Variables, table: Table) -> Event
+    ensures { λ r. ⌜ r ≡ «Clutch_Open» table v ⌝ }
 {
     let enabled = v.Clutch_Request_Open // grd1
         & !v.Clutch_Open // grd2
         & !v.Error_Clutch_Open; // grd3
+    let number = early(v.time, v.Clutch_Request_OpenT, table.clutch_open_de); // 02: request 6, the delay from delivery; not printed
+    let excess = early_by(v.time, v.Clutch_Request_OpenT, table.clutch_open_de); // before 02
     v.Clutch_Open = true; // act1
     v.Clutch_OpenT = v.time; // act2
     Event {
         enabled,
-        number: 0,
-        excess: 0,
+        number,
+        excess,
         after: v,
     }
 }
 
-pub fn Error_Clutch_Open(mut v: Variables) -> Event
-    ensures { λ r. ⌜ r ≡ «Error_Clutch_Open» v ⌝ }
+pub fn Error_Clutch_Open(mut v: Variables, table: Table) -> Event
+    ensures { λ r. ⌜ r ≡ «Error_Clutch_Open» table v ⌝ }
 {
     let enabled = v.Clutch_Request_Open // grd1
         & !v.Clutch_Open // grd2
         & !v.Error_Clutch_Open; // grd3
+    let number = early(v.time, v.Clutch_Request_OpenT, table.error_clutch_open_de); // 02: request 6, the delay from delivery; not printed
+    let excess = early_by(v.time, v.Clutch_Request_OpenT, table.error_clutch_open_de); // before 02
     v.Error_Clutch_Open = true; // act1
     Event {
         enabled,
-        number: 0,
-        excess: 0,
+        number,
+        excess,
         after: v,
     }
 }
@@ -218,33 +225,37 @@ pub fn Clutch_Request_Close(mut v: Variables) -> Event
     }
 }
 
-pub fn Clutch_Close(mut v: Variables) -> Event
-    ensures { λ r. ⌜ r ≡ «Clutch_Close» v ⌝ }
+pub fn Clutch_Close(mut v: Variables, table: Table) -> Event
+    ensures { λ r. ⌜ r ≡ «Clutch_Close» table v ⌝ }
 {
     let enabled = v.Clutch_Request_Close // grd1
         & !v.Clutch_Close // grd2
         & !v.Error_Clutch_Close; // grd3
+    let number = early(v.time, v.Clutch_Request_CloseT, table.clutch_close_de); // 02: request 6, the delay from delivery; not printed
+    let excess = early_by(v.time, v.Clutch_Request_CloseT, table.clutch_close_de); // before 02
     v.Clutch_Close = true; // act1
     v.Clutch_CloseT = v.time; // act2
     Event {
         enabled,
-        number: 0,
-        excess: 0,
+        number,
+        excess,
         after: v,
     }
 }
 
-pub fn Error_Clutch_Close(mut v: Variables) -> Event
-    ensures { λ r. ⌜ r ≡ «Error_Clutch_Close» v ⌝ }
+pub fn Error_Clutch_Close(mut v: Variables, table: Table) -> Event
+    ensures { λ r. ⌜ r ≡ «Error_Clutch_Close» table v ⌝ }
 {
     let enabled = v.Clutch_Request_Close // grd1
         & !v.Clutch_Close // grd2
         & !v.Error_Clutch_Close; // grd3
+    let number = early(v.time, v.Clutch_Request_CloseT, table.error_clutch_close_de); // 02: request 6, the delay from delivery; not printed
+    let excess = early_by(v.time, v.Clutch_Request_CloseT, table.error_clutch_close_de); // before 02
     v.Error_Clutch_Close = true; // act1
     Event {
         enabled,
-        number: 0,
-        excess: 0,
+        number,
+        excess,
         after: v,
     }
 }

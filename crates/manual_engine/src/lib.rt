@@ -52,25 +52,25 @@ fn deliver(v: Variables) -> Event
     )
 }
 
-fn device_good(v: Variables) -> Event
-    ensures { λ r. ⌜ r ≡ deviceGood v ⌝ }
+fn device_good(v: Variables, table: Table) -> Event
+    ensures { λ r. ⌜ r ≡ deviceGood table v ⌝ }
 {
     first_of_6(
         manual_devices::Engine_SyncSpeed(v),
         manual_devices::Engine_ZeroTorque(v),
-        manual_devices::Clutch_Open(v),
-        manual_devices::Clutch_Close(v),
+        manual_devices::Clutch_Open(v, table),
+        manual_devices::Clutch_Close(v, table),
         manual_devices::Gear_Release(v),
         manual_devices::Gear_Set(v),
     )
 }
 
-fn device_failed(v: Variables) -> Event
-    ensures { λ r. ⌜ r ≡ deviceFailed v ⌝ }
+fn device_failed(v: Variables, table: Table) -> Event
+    ensures { λ r. ⌜ r ≡ deviceFailed table v ⌝ }
 {
     first_of_4(
-        manual_devices::Error_Clutch_Open(v),
-        manual_devices::Error_Clutch_Close(v),
+        manual_devices::Error_Clutch_Open(v, table),
+        manual_devices::Error_Clutch_Close(v, table),
         manual_devices::Error_Gear_Release(v),
         manual_devices::Error_Gear_Set(v),
     )
@@ -245,8 +245,8 @@ fn moved(v: Variables, table: Table, x: Step) -> Moved
         Step::GearToGear => manual_devices::RequestNoNeu(v),
         Step::ToNeutral => manual_devices::RequestToNeu(v),
         Step::Deliver => deliver(v),
-        Step::DeviceGood => device_good(v),
-        Step::DeviceFailed => device_failed(v),
+        Step::DeviceGood => device_good(v, table),
+        Step::DeviceFailed => device_failed(v, table),
         Step::EngineWaits => engine_waits(v),
         Step::Take => take(v, table),
         Step::AskClutch => ask_clutch(v, table),

@@ -24,6 +24,7 @@ use Rattle.munasirel.proofs.munasirel_advance_block as advance-block
 use Rattle.munasirel.proofs.munasirel_judge.Reads as judge-reads
 use Rattle.munasirel.proofs.munasirel_verdict.Reads as verdict-reads
 use Rattle.munasirel.proofs.munasirel_admit.Reads as admit-reads
+use Rattle.munasirel.proofs.munasirel_house.Reads as house-reads
 use Rattle.munasirel.proofs.munasirel_table.Reads as table-reads
 use Rattle.munasirel.proofs.munasirel_line.Reads as line-reads
 use Rattle.munasirel.proofs.munasirel_join.Reads as join-reads
@@ -40,6 +41,9 @@ munasirel-verdict κs a x y at at′ p q = p ∙ sym q
 
 pub munasirel-admit : Determined admit-reads.Post
 munasirel-admit κs a x y at at′ p q = p ∙ sym q
+
+pub munasirel-house : Determined house-reads.Post
+munasirel-house κs a x y at at′ p q = p ∙ sym q
 
 pub munasirel-table : Determined table-reads.Post
 munasirel-table κs a x y at at′ p q = p ∙ sym q

@@ -1,12 +1,12 @@
 -- What a host calls is refused by the first number whose condition holds, in the words of each crate's specs/Refusals.antt, and a refused
 -- call keeps the count and every byte that it was lent.
 -- Assumes nothing.
-use mathlib.Core.Path.{_≡_, sym, subst}
+use mathlib.Core.Path.{_≡_, refl, sym, subst}
 use Prim.Native.Nat.{_≤_}
 use denote.Ref.{now}
 use Rattle.checks.specs.Conditions.{FirstOf}
-use Rattle.limits.specs.Refusals.{broken}
-use Rattle.limits.proofs.Refusals.{in-order, at-most-15}
+use Rattle.limits.specs.Refusals.{byHouse, Admitted, broken}
+use Rattle.limits.proofs.Refusals.{both-are-admitted, in-order, at-most-16}
 use Rattle.line.specs.Refusals.{LineAnswers}
 use Rattle.line.proofs.Refusals.{line-answers}
 use Rattle.shiftlist.specs.Refusals.{BuildAnswers, FetchAnswers}
@@ -26,6 +26,7 @@ use Rattle.munasirel.specs.Calls.{wishOf}
 use Rattle.munasirel.proofs.munasirel_judge.Reads as judge-reads
 use Rattle.munasirel.proofs.munasirel_verdict.Reads as verdict-reads
 use Rattle.munasirel.proofs.munasirel_admit.Reads as admit-reads
+use Rattle.munasirel.proofs.munasirel_house.Reads as house-reads
 use Rattle.munasirel.proofs.munasirel_line.Reads as line-reads
 use Rattle.munasirel.proofs.munasirel_join.Reads as join-reads
 use Rattle.munasirel.proofs.munasirel_write.Reads as write-reads
@@ -43,9 +44,13 @@ munasirel-judge κs a r at p = (verdictOf (now (a .0)), p, judge-answers (now (a
 pub munasirel-verdict : (κs : _) (a : _) (r : _) (at : _) → verdict-reads.Post κs a r at → JudgeAnswers (now (a .0)) r
 munasirel-verdict κs a r at p = subst (JudgeAnswers (now (a .0))) (sym p) (judge-answers (now (a .0)))
 
+-- the house's table by name, and it is admitted
+pub munasirel-house : (κs : _) (a : _) (r : _) (at : _) → house-reads.Post κs a r at → (r ≡ byHouse) × Admitted r
+munasirel-house κs a r at p = rw p (refl, both-are-admitted .1)
+
 pub munasirel-admit :
-    (κs : _) (a : _) (r : _) (at : _) → admit-reads.Post κs a r at → FirstOf (broken (a .0)) r × (r ≤ 15)
-munasirel-admit κs a r at p = rw p (in-order (a .0), at-most-15 (a .0))
+    (κs : _) (a : _) (r : _) (at : _) → admit-reads.Post κs a r at → FirstOf (broken (a .0)) r × (r ≤ 16)
+munasirel-admit κs a r at p = rw p (in-order (a .0), at-most-16 (a .0))
 
 -- the number, the length and the buffer
 pub munasirel-line :

@@ -1,10 +1,11 @@
 -- The round trip of files through the calls of a host in C: what `munasirel_write` leaves in the lent buffer reads back and is judged
--- as what was given, and a good file that was taken apart stands there again.
+-- as what was given, and a good file that was taken apart stands there again, in eighteen entries where it had twenty-two with four
+-- zeros.
 -- Assumes nothing.
 use mathlib.Core.Path.{_≡_, refl, ap, subst, _∙_}
 use mathlib.Core.Bool.{Bool, true, false, cond}
 use mathlib.Core.List.{List}
-use Prim.Native.Nat.{ℕ, _≤_}
+use Prim.Native.Nat.{ℕ, _+_, _≤_}
 use lib.Dec.{eqb}
 use lib.ListN.{length, take}
 use contract.Lifetimes.{Lfts}
@@ -20,8 +21,8 @@ use Rattle.stepfile.specs.declared.write.Wish.the-variants.{Given, NoTable}
 use Rattle.stepfile.specs.declared.write.Written.{Written}
 use Rattle.stepfile.specs.Files.{tableEntries, tableIn}
 use Rattle.stepfile.specs.Writing.{wished}
-use Rattle.stepfile.specs.RoundTrip.{readingsBy}
-use Rattle.stepfile.proofs.RoundTripCalls.{Stands, TakenApart, StandsAgain, reads-back, gives-the-file-back}
+use Rattle.stepfile.specs.RoundTrip.{readingsBy, FourZeros, wishIn}
+use Rattle.stepfile.proofs.RoundTripCalls.{Stands, TakenApart, StandsAgain, StandsInEighteen, reads-back, gives-the-file-back, gives-the-file-in-eighteen}
 use Rattle.verdict.specs.declared.Verdict.{Verdict}
 use Rattle.verdict.specs.Verdicts.{verdictOf}
 use Rattle.verdict.proofs.WrittenFiles.{judged-as-given}
@@ -91,12 +92,20 @@ module _
       (reads-back (wishOf with-table table) codes amounts before after answer answered (call .4) z)
 
   -- none is wished where the file has none, and a table that is wished is the file's
-  pub munasirel-write-gives-the-file-back :
-      (f : List ℕ) → TakenApart f codes amounts → eqb with-table 0 ≡ eqb (tableEntries f) 0
-      → (eqb with-table 0 ≡ false → table ≡ tableIn f) → length f ≤ length before → StandsAgain f answer before after
-  munasirel-write-gives-the-file-back f t k e =
-      gives-the-file-back (wishOf with-table table) codes amounts before after answer answered (call .4) f t
-      (same-wish (eqb with-table 0) table (tableIn f) e ∙ ap (λ b. cond b NoTable (Given (tableIn f))) k)
+  module _
+      (f : List ℕ) (t : TakenApart f codes amounts) (k : eqb with-table 0 ≡ eqb (tableEntries f) 0)
+      (e : eqb with-table 0 ≡ false → table ≡ tableIn f) where
+    its-wish : wishOf with-table table ≡ wishIn f
+    its-wish = same-wish (eqb with-table 0) table (tableIn f) e ∙ ap (λ b. cond b NoTable (Given (tableIn f))) k
+
+    pub munasirel-write-gives-the-file-back : ¬ FourZeros f → length f ≤ length before → StandsAgain f answer before after
+    munasirel-write-gives-the-file-back =
+        gives-the-file-back (wishOf with-table table) codes amounts before after answer answered (call .4) f t its-wish
+
+    pub munasirel-write-gives-the-file-in-eighteen :
+        FourZeros f → length f ≤ length before + 8 → StandsInEighteen f answer before after
+    munasirel-write-gives-the-file-in-eighteen =
+        gives-the-file-in-eighteen (wishOf with-table table) codes amounts before after answer answered (call .4) f t its-wish
 
   -- ---- of calls on the bytes that it wrote
   abbrev pub bytes : List ℕ

@@ -1,5 +1,6 @@
 // What a host in C calls: judging, the limit table, the line, joining, writing, the list of shifts, and advancing a state that the host keeps.
 ghost use mathlib.Core.Path.{_≡_};
+ghost use Rattle.limits.specs.Limits.{house};
 ghost use Rattle.limits.specs.Rules.{brokenRule};
 ghost use Rattle.stepfile.specs.Files.{tableIn};
 ghost use Rattle.line.specs.Laying.{laid, after};
@@ -41,6 +42,14 @@ pub extern "C" fn munasirel_admit(table: Table) -> u8
     ensures { λ r. ⌜ r ≡ brokenRule table ⌝ }
 {
     table.broken_rule()
+}
+
+// The house's table, for the clutch unit that cannot answer at once.
+#[no_mangle]
+pub extern "C" fn munasirel_house() -> Table
+    ensures { λ r. ⌜ r ≡ house ⌝ }
+{
+    Table::house()
 }
 
 // The table of a file; of one that has none, the default.

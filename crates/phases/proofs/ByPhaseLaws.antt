@@ -12,8 +12,8 @@ use Rattle.checks.proofs.Tests.{case, either}
 use Rattle.checks.specs.Ranges.{From}
 use Rattle.checks.proofs.Ranges.{from}
 use Rattle.limits.specs.declared.Table.{Table}
-use Rattle.phases.specs.Phases.{orderOf, nextOf, clutchOf, deviceLimit, phaseLimit, latestTake, earliestAsk, engine}
-use Rattle.phases.specs.ByPhase.{setPhases, releasePhases, enginePhases, has, deviceLimitIn, phaseLimitIn, exIn, deIn, nextPhase, clutchPhase}
+use Rattle.phases.specs.Phases.{orderOf, nextOf, clutchOf, deviceLimit, phaseLimit, latestTake, earliestAsk, plainDelay, errorDelay, engine, clutchOrder}
+use Rattle.phases.specs.ByPhase.{setPhases, releasePhases, enginePhases, openOrClosePhases, has, deviceLimitIn, phaseLimitIn, exIn, deIn, plainDelayIn, errorDelayIn, nextPhase, clutchPhase}
 
 module _ (t : Table) where
   pub device-limit-in : (p : ℕ) → 1 ≤ p → p < 22 → deviceLimit t (orderOf p) ≡ deviceLimitIn t p
@@ -27,6 +27,12 @@ module _ (t : Table) where
 
   pub de-in : (p : ℕ) → 1 ≤ p → p < 22 → earliestAsk t (orderOf p) ≡ deIn t p
   de-in = from _ 1 21 (omega arith)
+
+  pub plain-delay-in : (p : ℕ) → 1 ≤ p → p < 22 → plainDelay t (orderOf p) ≡ plainDelayIn t p
+  plain-delay-in = from _ 1 21 (omega arith)
+
+  pub error-delay-in : (p : ℕ) → 1 ≤ p → p < 22 → errorDelay t (orderOf p) ≡ errorDelayIn t p
+  error-delay-in = from _ 1 21 (omega arith)
 
 pub next-in : (p : ℕ) → 1 ≤ p → p < 22 → nextOf p ≡ nextPhase p
 next-in = from _ 1 21 (omega arith)
@@ -63,6 +69,16 @@ engine-in p l m h = found enginePhases p (in-list p l m h)
 
 pub engine-of : (p : ℕ) → OneOf enginePhases p → T (engine p) × (1 ≤ p) × (p ≤ 21)
 engine-of = each _ enginePhases (omega arith)
+
+-- the phases of the clutch's orders
+in-clutch-list : (p : ℕ) → 1 ≤ p → p < 22 → T (clutchOrder p) → T (has openOrClosePhases p)
+in-clutch-list = from _ 1 21 (omega arith)
+
+pub open-or-close-in : (p : ℕ) → 1 ≤ p → p < 22 → T (clutchOrder p) → OneOf openOrClosePhases p
+open-or-close-in p l m h = found openOrClosePhases p (in-clutch-list p l m h)
+
+pub open-or-close-of : (p : ℕ) → OneOf openOrClosePhases p → T (clutchOrder p) × (1 ≤ p) × (p ≤ 21)
+open-or-close-of = each _ openOrClosePhases (omega arith)
 
 -- the phases of an order, by the order's number
 of-order :

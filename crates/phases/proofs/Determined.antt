@@ -11,6 +11,8 @@ use Rattle.phases.proofs.device_limit.Reads as device-limit-reads
 use Rattle.phases.proofs.phase_limit.Reads as phase-limit-reads
 use Rattle.phases.proofs.latest_take.Reads as latest-take-reads
 use Rattle.phases.proofs.earliest_ask.Reads as earliest-ask-reads
+use Rattle.phases.proofs.plain_delay.Reads as plain-delay-reads
+use Rattle.phases.proofs.error_delay.Reads as error-delay-reads
 use Rattle.phases.proofs.is_unfinished.Reads as is-unfinished-reads
 
 pub next-of : Determined next-of-reads.Post
@@ -39,6 +41,12 @@ latest-take κs a x y at at′ p q = p ∙ sym q
 
 pub earliest-ask : Determined earliest-ask-reads.Post
 earliest-ask κs a x y at at′ p q = p ∙ sym q
+
+pub plain-delay : Determined plain-delay-reads.Post
+plain-delay κs a x y at at′ p q = p ∙ sym q
+
+pub error-delay : Determined error-delay-reads.Post
+error-delay κs a x y at at′ p q = p ∙ sym q
 
 pub is-unfinished : Determined is-unfinished-reads.Post
 is-unfinished κs a x y at at′ p q = p ∙ sym q

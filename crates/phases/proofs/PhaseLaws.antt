@@ -13,7 +13,7 @@ use Rattle.phases.specs.Phases.{orderOf, nextOf, clutchOf, unfinished, l
 
 -- past the last order there is no entry
 pub no-limit : (numbers : List ℕ) (t : Table) (o : ℕ) → length numbers ≤ o → 0 ≡ limitBy numbers t o
-no-limit numbers t o h = rw (List·getD-eq-default numbers 18 h)
+no-limit numbers t o h = rw (List·getD-eq-default numbers 22 h)
 
 -- phases 1 to 21 have an order
 pub ordered : (p : ℕ) → 1 ≤ p → p < 22 → 1 ≤ orderOf p

@@ -30,6 +30,10 @@ closePhases = 5 ∷ 15 ∷ 16 ∷ 21 ∷ []
 abbrev pub enginePhases : List ℕ
 enginePhases = 1 ∷ 6 ∷ 10 ∷ 17 ∷ []
 
+-- the open and the close phases
+abbrev pub openOrClosePhases : List ℕ
+openOrClosePhases = 2 ∷ 5 ∷ 7 ∷ 11 ∷ 15 ∷ 16 ∷ 18 ∷ 21 ∷ []
+
 -- what is said of a phase, in lines of phases and a number: the number of the line that has it, 0 where none has
 abbrev pub has : List ℕ → ℕ → Bool
 has [] p = false
@@ -65,6 +69,13 @@ exIn t = said ((syncPhases, t .«sync_ex») ∷ (zeroTorquePhases, t .«zero_ex�
 
 abbrev pub deIn : Table → ℕ → ℕ
 deIn t = said ((syncPhases, t .«sync_de») ∷ (zeroTorquePhases, t .«zero_de») ∷ [])
+
+-- the delays of an open or close phase, plain and error
+abbrev pub plainDelayIn : Table → ℕ → ℕ
+plainDelayIn t = said ((openPhases, t .«clutch_open_de») ∷ (closePhases, t .«clutch_close_de») ∷ [])
+
+abbrev pub errorDelayIn : Table → ℕ → ℕ
+errorDelayIn t = said ((openPhases, t .«error_clutch_open_de») ∷ (closePhases, t .«error_clutch_close_de») ∷ [])
 
 -- next when taken
 abbrev pub nextPhase : ℕ → ℕ

@@ -86,37 +86,51 @@ nextOf p = rowOf p .next
 abbrev pub clutchOf : ℕ → ℕ
 clutchOf p = rowOf p .clutch
 
--- ---- limits by order: the entry's number stands at the order's; 18 is no entry, and counts as 0
+-- ---- limits by order: the entry's number stands at the order's; 22 is no entry, and counts as 0
 abbrev pub limitBy : List ℕ → Table → ℕ → ℕ
-limitBy numbers t o = entry t (getD numbers o 18)
+limitBy numbers t o = entry t (getD numbers o 22)
 
 -- device limits: sync 1, zero torque 2, open 3, close 4, set 5, release 6
 abbrev pub deviceEntries : List ℕ
-deviceEntries = 18 ∷ 1 ∷ 2 ∷ 3 ∷ 4 ∷ 5 ∷ 6 ∷ []
+deviceEntries = 22 ∷ 1 ∷ 2 ∷ 3 ∷ 4 ∷ 5 ∷ 6 ∷ []
 
 abbrev pub deviceLimit : Table → ℕ → ℕ
 deviceLimit = limitBy deviceEntries
 
 -- phase limits: sync 9, zero torque 10, open 13, set 14, release 15, close 16
 abbrev pub phaseEntries : List ℕ
-phaseEntries = 18 ∷ 9 ∷ 10 ∷ 13 ∷ 16 ∷ 14 ∷ 15 ∷ []
+phaseEntries = 22 ∷ 9 ∷ 10 ∷ 13 ∷ 16 ∷ 14 ∷ 15 ∷ []
 
 abbrev pub phaseLimit : Table → ℕ → ℕ
 phaseLimit = limitBy phaseEntries
 
 -- EX: sync 7, zero torque 8
 abbrev pub exEntries : List ℕ
-exEntries = 18 ∷ 7 ∷ 8 ∷ []
+exEntries = 22 ∷ 7 ∷ 8 ∷ []
 
 abbrev pub latestTake : Table → ℕ → ℕ
 latestTake = limitBy exEntries
 
 -- DE: sync 11, zero torque 12
 abbrev pub deEntries : List ℕ
-deEntries = 18 ∷ 11 ∷ 12 ∷ []
+deEntries = 22 ∷ 11 ∷ 12 ∷ []
 
 abbrev pub earliestAsk : Table → ℕ → ℕ
 earliestAsk = limitBy deEntries
+
+-- plain delays: open 18, close 20
+abbrev pub plainEntries : List ℕ
+plainEntries = 22 ∷ 22 ∷ 22 ∷ 18 ∷ 20 ∷ []
+
+abbrev pub plainDelay : Table → ℕ → ℕ
+plainDelay = limitBy plainEntries
+
+-- error delays: open 19, close 21
+abbrev pub errorEntries : List ℕ
+errorEntries = 22 ∷ 22 ∷ 22 ∷ 19 ∷ 21 ∷ []
+
+abbrev pub errorDelay : Table → ℕ → ℕ
+errorDelay = limitBy errorEntries
 
 -- a shift is unfinished in phases 1 to 21
 abbrev pub unfinished : ℕ → Bool
@@ -125,3 +139,7 @@ unfinished p = leb 1 p && leb p 21
 -- the engine phases 1, 6, 10 and 17: those whose order is sync or zero torque
 abbrev pub engine : ℕ → Bool
 engine p = leb sync (orderOf p) && leb (orderOf p) zeroTorque
+
+-- the open and close phases: those whose order is the clutch's
+abbrev pub clutchOrder : ℕ → Bool
+clutchOrder p = leb «open» (orderOf p) && leb (orderOf p) close

@@ -1,7 +1,7 @@
 // The phase table of document 01, and the limits that a phase has by its order.
 ghost use mathlib.Core.Path.{_≡_};
 ghost use lib.ListN.{getD};
-ghost use Rattle.phases.specs.Phases.{orderOf, nextOf, clutchOf, deviceEntries, phaseEntries, deviceLimit, phaseLimit, latestTake, earliestAsk, unfinished};
+ghost use Rattle.phases.specs.Phases.{orderOf, nextOf, clutchOf, deviceEntries, phaseEntries, deviceLimit, phaseLimit, latestTake, earliestAsk, plainDelay, errorDelay, unfinished};
 use limits::Table;
 use limits::entry_at;
 
@@ -122,34 +122,34 @@ pub fn clutch_of(phase: u8) -> u8
     }
 }
 
-// The entry of an order's device limit, and that of its phase limit; 18, which is no entry, where there is no such order.
+// The entry of an order's device limit, and that of its phase limit; 22, which is no entry, where there is no such order.
 pub fn device_entry(order: u8) -> usize
-    ensures { λ r. ⌜ r ≡ getD deviceEntries order 18 ⌝ }
+    ensures { λ r. ⌜ r ≡ getD deviceEntries order 22 ⌝ }
 {
     match order {
-        0 => 18,
+        0 => 22,
         SYNC => 1,
         ZERO_TORQUE => 2,
         OPEN => 3,
         CLOSE => 4,
         SET => 5,
         RELEASE => 6,
-        _ => 18,
+        _ => 22,
     }
 }
 
 pub fn phase_entry(order: u8) -> usize
-    ensures { λ r. ⌜ r ≡ getD phaseEntries order 18 ⌝ }
+    ensures { λ r. ⌜ r ≡ getD phaseEntries order 22 ⌝ }
 {
     match order {
-        0 => 18,
+        0 => 22,
         SYNC => 9,
         ZERO_TORQUE => 10,
         OPEN => 13,
         CLOSE => 16,
         SET => 14,
         RELEASE => 15,
-        _ => 18,
+        _ => 22,
     }
 }
 
@@ -187,6 +187,34 @@ pub fn earliest_ask(table: Table, order: u8) -> u16
         0 => 0,
         SYNC => table.sync_de,
         ZERO_TORQUE => table.zero_de,
+        _ => 0,
+    }
+}
+
+// The plain delay of an order: how long its device cannot be good.
+pub fn plain_delay(table: Table, order: u8) -> u16
+    ensures { λ r. ⌜ r ≡ plainDelay table order ⌝ }
+{
+    match order {
+        0 => 0,
+        SYNC => 0,
+        ZERO_TORQUE => 0,
+        OPEN => table.clutch_open_de,
+        CLOSE => table.clutch_close_de,
+        _ => 0,
+    }
+}
+
+// The error delay of an order: how long its device cannot have failed.
+pub fn error_delay(table: Table, order: u8) -> u16
+    ensures { λ r. ⌜ r ≡ errorDelay table order ⌝ }
+{
+    match order {
+        0 => 0,
+        SYNC => 0,
+        ZERO_TORQUE => 0,
+        OPEN => table.error_clutch_open_de,
+        CLOSE => table.error_clutch_close_de,
         _ => 0,
     }
 }

@@ -31,7 +31,7 @@ pub fn number8(n: u8) {
 pub fn table(table: Table) {
     let entries = table.entries();
     let mut i: usize = 0;
-    while i < 18 {
+    while i < 22 {
         number16(entries[i]);
         i += 1;
     }

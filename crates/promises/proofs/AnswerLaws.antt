@@ -32,7 +32,7 @@ use Rattle.promises.specs.HowFar.{HowFar}
 use Rattle.promises.specs.Answered.{Answered}
 use Rattle.promises.proofs.Permitted.{permitted}
 use Rattle.promises.proofs.EffectLaws.{effects}
-use Rattle.promises.proofs.RefusalLaws.{no-request, first-refusal}
+use Rattle.promises.proofs.RefusalLaws.{no-request, never-early, first-refusal}
 use Rattle.promises.proofs.ExcessLaws.{nothing, how-far, no-other-excess}
 
 -- ---- number, excess and state of an answer, by the broken rule k and the guard's g
@@ -185,7 +185,7 @@ module _ (t : Table) (s : State) (middle amount number : ℕ) where
   pub of-a-tick : FirstOf (refusals t s 12 middle amount) number → OneOf (0 ∷ 4 ∷ 6 ∷ 7 ∷ 13 ∷ 12 ∷ 11 ∷ []) number
   of-a-tick =
       kept (4 ∷ 6 ∷ 7 ∷ 13 ∷ 12 ∷ 11 ∷ []) (refusals t s 12 middle amount) number
-      (inl tt, (inr (a-code 12 (omega arith) (omega arith)), (inl tt, (inl tt, (inr (no-request t s amount 12 (omega arith)), (inr (λ h. let e = h .0 in omega arith), (inr (λ h. let e = h .0 in omega arith), (inl tt, (inl tt, (inl tt, tt))))))))))
+      (inl tt, (inr (a-code 12 (omega arith) (omega arith)), (inl tt, (inl tt, (inr (no-request t s amount 12 (omega arith)), (inr (never-early t s amount 12 (omega arith)), (inr (λ h. let e = h .0 in omega arith), (inl tt, (inl tt, (inl tt, tt))))))))))
 
   pub of-another-step :
       (code : ℕ) → ¬ (code ≡ 12) → FirstOf (refusals t s code middle amount) number

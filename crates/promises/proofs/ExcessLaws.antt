@@ -14,21 +14,22 @@ use Rattle.checks.proofs.Checks.{within, at-most}
 use Rattle.checks.proofs.Tests.{tests}
 use Rattle.limits.specs.declared.Table.{Table}
 use Rattle.phases.specs.Phases.{unfinished}
-use Rattle.phases.proofs.ByPhaseLaws.{among, ex-in, de-in}
+use Rattle.phases.proofs.ByPhaseLaws.{among, ex-in}
 use Rattle.shift.specs.declared.State.{State}
 use Rattle.shift.specs.declared.Step.{Step}
 use Rattle.shift.specs.declared.Step.the-variants.{FromNeutral, GearToGear, ToNeutral, Deliver, DeviceGood, DeviceFailed, EngineWaits, Take, AskClutch, RaiseError, Finish, Tick, Reset}
 use Rattle.shift.specs.declared.Reading.{Reading}
 use Rattle.shift.specs.declared.Reading.the-variants.{Means, WrongCode, WrongAmount}
-use Rattle.shift.specs.Steps.{shiftsIn, inEngine, inTakeTime, askBound, inAskTime, stageBound, phaseBound, limited, inTickTime, effect}
+use Rattle.shift.specs.Steps.{shiftsIn, inDevice, inEngine, goodBound, failedBound, inReportTime, inTakeTime, askBound, inAskTime, stageBound, phaseBound, limited, inTickTime, effect}
+use Rattle.shift.specs.Excess.{earlyBound}
 use Rattle.shift.specs.Answers.{listed, checks, guard, excess}
 use Rattle.shift.specs.Refusals.{codeOf, amountOf, Reads}
 use Rattle.shift.proofs.ExcessLaws.{none-below-9}
-use Rattle.promises.specs.Allowed.{Shifting}
-use Rattle.promises.specs.Refusals.{PastClock, PastStage, PastPhase}
+use Rattle.promises.specs.Allowed.{Shifting, OpenOrClose}
+use Rattle.promises.specs.Refusals.{TooEarly, PastClock, PastStage, PastPhase}
 use Rattle.promises.specs.HowFar.{atClock, EarlyBy, LateBy, PastBy, HowFar}
-use Rattle.promises.proofs.RefusalLaws.{by-test, behind}
-use Rattle.promises.proofs.PlaceLaws.{withinEx, withinStage, withinPhase, too-late, in-channel-time, in-device-time, past-stage, in-phase-time, past-phase}
+use Rattle.promises.proofs.RefusalLaws.{by-test, behind, good-too-early, failed-too-early, ask-too-early}
+use Rattle.promises.proofs.PlaceLaws.{withinEx, withinReport, withinStage, withinPhase, too-early, too-late, in-channel-time, in-device-time, past-stage, in-phase-time, past-phase}
 
 abbrev timed : List ℕ
 timed = 9 ∷ 10 ∷ 11 ∷ 12 ∷ 13 ∷ []
@@ -102,7 +103,7 @@ module _ (t : Table) (s : State) where
   Far x k = HowFar t s (codeOf x) (amountOf x) k (excess t s (Means x) k)
 
   carries-nothing : (x : Step) (k : ℕ) → k < 9 → Far x k
-  carries-nothing x k l = rw (none-below-9 t s (effect s x .clock) k l) (nothing t s (codeOf x) (amountOf x) k l)
+  carries-nothing x k l = rw (none-below-9 t s (earlyBound t s x) (effect s x .clock) k l) (nothing t s (codeOf x) (amountOf x) k l)
 
   untimed : (x : Step) → T (within 0 8 (checks t s (Means x))) → Far x (guard t s (Means x))
   untimed x h = let l = at-most 8 (checks t s (Means x)) h in carries-nothing x (guard t s (Means x)) (omega arith)
@@ -130,6 +131,49 @@ module _ (t : Table) (s : State) where
         none = λ n. absurd (n (inr (inl refl)));
       }))
 
+  -- 9: too early for a bound, as what is too early for it at any clock is described
+  early-by :
+      (code amount bound : ℕ) → ((c : ℕ) → (c < bound) ↔ TooEarly t (atClock c s) code) → s .clock < bound
+      → HowFar t s code amount 9 (bound - s .clock)
+  early-by code amount bound same l = record {
+    too-early = λ _. record {
+      some = omega arith;
+      then = λ q. let m = same (s .clock + (bound - s .clock)) .1 q in omega arith;
+      before = λ c m. same c .0 (omega arith);
+    };
+    too-late = λ q. absurd (omega arith);
+    past-phase = λ q. absurd (omega arith);
+    past-stage = λ q. absurd (omega arith);
+    past-clock = λ q. absurd (omega arith);
+    none = λ n. absurd (n (inl refl));
+  }
+
+  -- in an open or close phase that is the clock before a bound
+  at-any-clock :
+      (code bound : ℕ) → OpenOrClose s → ((c : ℕ) → (OpenOrClose s × (c < bound)) ↔ TooEarly t (atClock c s) code)
+      → (c : ℕ) → (c < bound) ↔ TooEarly t (atClock c s) code
+  at-any-clock code bound o same c = (λ l. same c .0 (o, l), λ q. same c .1 q .1)
+
+  good : Far DeviceGood (guard t s (Means DeviceGood))
+  good =
+      behind (Far DeviceGood) (listed s ++ shiftsIn s 2) (inReportTime s (goodBound t s)) 7 tt (λ _. carries-nothing DeviceGood 7 (omega arith))
+      (λ h.
+      by-test (Far DeviceGood) (withinReport s (goodBound t s)) 9 [] (λ e. carries-nothing DeviceGood 0 (omega arith))
+      (λ e.
+      let z : Shifting s = omega (arith, tests) in
+      let w = too-early s (goodBound t s) z e in
+      early-by 5 0 (goodBound t s) (at-any-clock 5 (goodBound t s) (w .0) (λ c. good-too-early t (atClock c s) 0 z)) (w .1)))
+
+  failed : Far DeviceFailed (guard t s (Means DeviceFailed))
+  failed =
+      behind (Far DeviceFailed) (listed s ++ (shiftsIn s 2 ++ inDevice s)) (inReportTime s (failedBound t s)) 7 tt (λ _. carries-nothing DeviceFailed 7 (omega arith))
+      (λ h.
+      by-test (Far DeviceFailed) (withinReport s (failedBound t s)) 9 [] (λ e. carries-nothing DeviceFailed 0 (omega arith))
+      (λ e.
+      let z : Shifting s = omega (arith, tests) in
+      let w = too-early s (failedBound t s) z e in
+      early-by 6 0 (failedBound t s) (at-any-clock 6 (failedBound t s) (w .0) (λ c. failed-too-early t (atClock c s) 0 z)) (w .1)))
+
   ask : Far AskClutch (guard t s (Means AskClutch))
   ask =
       behind (Far AskClutch) (listed s ++ (shiftsIn s 5 ++ inEngine s)) (inAskTime t s) 7 tt (λ _. carries-nothing AskClutch 7 (omega arith))
@@ -137,19 +181,7 @@ module _ (t : Table) (s : State) where
       by-test (Far AskClutch) (leb (askBound t s) (s .clock)) 9 [] (λ e. carries-nothing AskClutch 0 (omega arith))
       (λ e.
       let z : Shifting s = omega (arith, tests) in
-      let de = de-in t (s .phase) (z .0) (omega arith) in
-      let early = nleb→lt (askBound t s) (s .clock) e in record {
-        too-early = λ _. record {
-          some = omega arith;
-          then = λ q. let l = q .1 in omega arith;
-          before = λ c l. (refl, omega arith);
-        };
-        too-late = λ q. absurd (omega arith);
-        past-phase = λ q. absurd (omega arith);
-        past-stage = λ q. absurd (omega arith);
-        past-clock = λ q. absurd (omega arith);
-        none = λ n. absurd (n (inl refl));
-      }))
+      early-by 9 0 (askBound t s) (λ c. ask-too-early t (atClock c s) 0 z) (nleb→lt (askBound t s) (s .clock) e)))
 
   module _ (n : ℕ) where
     abbrev now : ℕ
@@ -203,8 +235,8 @@ module _ (t : Table) (s : State) where
   far GearToGear = untimed GearToGear tt
   far ToNeutral = untimed ToNeutral tt
   far Deliver = untimed Deliver tt
-  far DeviceGood = untimed DeviceGood tt
-  far DeviceFailed = untimed DeviceFailed tt
+  far DeviceGood = good
+  far DeviceFailed = failed
   far EngineWaits = untimed EngineWaits tt
   far Take = take
   far AskClutch = ask

@@ -13,3 +13,4 @@ pub mod Exactly
 pub mod Boxes
 pub mod Errors
 pub mod Before
+pub mod OldFleet

@@ -1,23 +1,26 @@
 -- Demand 3, first half, in laws: what a table accepts, a table that is nowhere tighter accepts, with the same outcome.
 -- Assumes nothing.
 use mathlib.Core.Path.{_≡_, refl}
+use mathlib.Core.Bool.{Bool, true, false, cond}
 use mathlib.Core.List.{List, [], _∷_}
 use Prim.Native.Nat.{ℕ, _≤_, _<_}
 use native.Mathlib.Omega.{arith}
+use lib.Dec.{T, leb}
 use lib.ListN.{getD}
 use Rattle.checks.proofs.Tests.{tests}
 use Rattle.checks.proofs.Checks.{Holds, holds→first}
 use Rattle.checks.proofs.Ranges.{below}
 use Rattle.limits.specs.declared.Table.{Table}
 use Rattle.limits.specs.Tighter.{NowhereTighter}
-use Rattle.limits.proofs.TighterLaws.{later-takes, sooner-asks}
-use Rattle.phases.specs.Phases.{orderOf, deviceLimit, phaseLimit, latestTake, earliestAsk}
+use Rattle.limits.proofs.TighterLaws.{later-takes, sooner-asks, sooner-reports}
+use Rattle.phases.specs.Phases.{clutchOrder, orderOf, deviceLimit, phaseLimit, latestTake, earliestAsk, plainDelay, errorDelay}
 use Rattle.phases.proofs.PhaseLaws.{orders}
 use Rattle.shift.specs.declared.State.{State}
 use Rattle.shift.specs.declared.Reading.{Reading}
 use Rattle.shift.specs.declared.Reading.the-variants.{Means}
 use Rattle.shift.specs.declared.Step.{Step}
 use Rattle.shift.specs.declared.Step.the-variants.{FromNeutral, GearToGear, ToNeutral, Deliver, DeviceGood, DeviceFailed, EngineWaits, Take, AskClutch, RaiseError, Finish, Tick, Reset}
+use Rattle.shift.specs.Steps.{goodBound, failedBound}
 use Rattle.shift.specs.Answers.{checks, guard, led}
 use Rattle.shift.specs.Runs.{run}
 use Rattle.promises.proofs.Runs.{each-step, went-on}
@@ -36,6 +39,17 @@ module _ (t u : Table) (l : NowhereTighter t u) where
   earliest-asks : (o : ℕ) → o < 7 → earliestAsk u o ≤ earliestAsk t o
   earliest-asks = let e = sooner-asks t u l in below _ 7 (omega arith)
 
+  plain-delays : (o : ℕ) → o < 7 → plainDelay u o ≤ plainDelay t o
+  plain-delays = let e = sooner-reports t u l in below _ 7 (omega arith)
+
+  error-delays : (o : ℕ) → o < 7 → errorDelay u o ≤ errorDelay t o
+  error-delays = let e = sooner-reports t u l in below _ 7 (omega arith)
+
+  -- a report that is not before a bound is not before a lesser one
+  reports : (b : Bool) (x y c : ℕ) → y ≤ x → T (leb (cond b x 0) c) → T (leb (cond b y 0) c)
+  reports true x y c h k = omega (arith, tests)
+  reports false x y c h k = k
+
   stage-limits :
       (d e : ℕ) → d ≤ e → (g : ℕ) → g < 6
       → getD (0 ∷ t .«channel_dl» ∷ d ∷ t .«channel_dl» ∷ []) g 0 ≤ getD (0 ∷ u .«channel_dl» ∷ e ∷ u .«channel_dl» ∷ []) g 0
@@ -48,8 +62,16 @@ module _ (t u : Table) (l : NowhereTighter t u) where
     kept GearToGear h = h
     kept ToNeutral h = h
     kept Deliver h = h
-    kept DeviceGood h = h
-    kept DeviceFailed h = h
+    kept DeviceGood h =
+        let o = orders (s .phase) (omega (arith, tests)) in
+        let d = plain-delays (orderOf (s .phase)) o in
+        let e = reports (clutchOrder (s .phase)) (goodBound t s) (goodBound u s) (s .clock) (omega arith) (h .1 .1 .1 .1 .1 .1 .0) in
+        omega (arith, tests)
+    kept DeviceFailed h =
+        let o = orders (s .phase) (omega (arith, tests)) in
+        let d = error-delays (orderOf (s .phase)) o in
+        let e = reports (clutchOrder (s .phase)) (failedBound t s) (failedBound u s) (s .clock) (omega arith) (h .1 .1 .1 .1 .1 .1 .1 .0) in
+        omega (arith, tests)
     kept EngineWaits h = h
     kept Take h =
         let o = orders (s .phase) (omega (arith, tests)) in

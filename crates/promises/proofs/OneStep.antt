@@ -87,8 +87,8 @@ module _ (t : Table) (s : State) (code middle amount : ℕ) where
       let q = the-one t s code middle amount n e v y in
       (p .0 ∙ sym (q .0), p .1 ∙ sym (q .1), p .2 ∙ sym (q .2))
 
-  -- how far over: a tick that is refused by 11, 12 or 13 by amounts; an ask clutch that is refused by 9 and a take that is refused by 10
-  -- by clocks; every other answer carries 0
+  -- how far over: a tick that is refused by 11, 12 or 13 by amounts; a device good, device failed or ask clutch that is refused by 9 and
+  -- a take that is refused by 10 by clocks; every other answer carries 0
   pub the-excess-of-a-tick :
       (n e : ℕ) (u : State) → Answered t s code middle amount n e u
       → (n ≡ 11 → Amounts (PastPhase t s code) amount e)
@@ -101,8 +101,8 @@ module _ (t : Table) (s : State) (code middle amount : ℕ) where
         λ q. by-amounts (λ c m. PastClock (atClock c s) code m) (s .clock) amount e (far .past-clock q),
       )
 
-  pub the-excess-of-an-ask : (e : ℕ) (u : State) → Answered t s code middle amount 9 e u → EarlyBy t s code e
-  the-excess-of-an-ask e u x = x .how-far .too-early refl
+  pub the-excess-of-an-early-step : (e : ℕ) (u : State) → Answered t s code middle amount 9 e u → EarlyBy t s code e
+  the-excess-of-an-early-step e u x = x .how-far .too-early refl
 
   pub the-excess-of-a-take : (e : ℕ) (u : State) → Answered t s code middle amount 10 e u → LateBy t s code e
   the-excess-of-a-take e u x = x .how-far .too-late refl

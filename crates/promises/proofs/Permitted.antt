@@ -8,16 +8,17 @@ use Rattle.checks.proofs.Tests.{tests}
 use Rattle.checks.proofs.Checks.{Holds, holds→first}
 use Rattle.limits.specs.declared.Table.{Table}
 use Rattle.phases.specs.Phases.{orderOf}
-use Rattle.phases.proofs.ByPhaseLaws.{de-in}
+use Rattle.phases.proofs.ByPhaseLaws.{de-in, plain-delay-in, error-delay-in}
 use Rattle.shift.specs.declared.State.{State}
 use Rattle.shift.specs.declared.Reading.{Reading}
 use Rattle.shift.specs.declared.Reading.the-variants.{Means, WrongCode, WrongAmount}
 use Rattle.shift.specs.declared.Step.{Step}
 use Rattle.shift.specs.declared.Step.the-variants.{FromNeutral, GearToGear, ToNeutral, Deliver, DeviceGood, DeviceFailed, EngineWaits, Take, AskClutch, RaiseError, Finish, Tick, Reset}
+use Rattle.shift.specs.Steps.{goodBound, failedBound}
 use Rattle.shift.specs.Answers.{checks, guard}
 use Rattle.promises.specs.Allowed.{Shifting, Permitted}
 use Rattle.promises.proofs.Runs.{checked}
-use Rattle.promises.proofs.PlaceLaws.{withinEx, withinStage, withinPhase, passing, engine-phase, engine-order, in-take-time, too-late, in-channel-time, in-device-time, past-stage, in-phase-time, past-phase}
+use Rattle.promises.proofs.PlaceLaws.{withinEx, withinReport, withinStage, withinPhase, passing, engine-phase, engine-order, in-report-time, too-early, in-take-time, too-late, in-channel-time, in-device-time, past-stage, in-phase-time, past-phase}
 
 -- ---- what the checks of a step say, in the document's words
 module _ (t : Table) (s : State) where
@@ -26,9 +27,21 @@ module _ (t : Table) (s : State) where
   said GearToGear h = omega (arith, tests)
   said ToNeutral h = omega (arith, tests)
   said Deliver h = omega (arith, tests)
-  said DeviceGood h = omega (arith, tests)
+  said DeviceGood h =
+      let z : Shifting s = omega (arith, tests) in
+      let delay = plain-delay-in t (s .phase) (z .0) (omega arith) in
+      (omega (arith, tests), (z, omega (arith, tests), λ c. let l = in-report-time s (goodBound t s) (h .1 .1 .1 .1 .1 .1 .0) c in omega arith))
   said DeviceFailed h =
-      (omega (arith, tests), (omega (arith, tests), omega (arith, tests), λ z. let o = engine-order s z in omega (arith, tests)))
+      let z : Shifting s = omega (arith, tests) in
+      let delay = error-delay-in t (s .phase) (z .0) (omega arith) in (
+        omega (arith, tests),
+        (
+          z,
+          omega (arith, tests),
+          λ e. let o = engine-order s e in omega (arith, tests),
+          λ c. let l = in-report-time s (failedBound t s) (h .1 .1 .1 .1 .1 .1 .1 .0) c in omega arith,
+        ),
+      )
   said EngineWaits h =
       let z : Shifting s = omega (arith, tests) in
       (omega (arith, tests), (engine-phase s z (omega (arith, tests)), omega (arith, tests)))
@@ -59,9 +72,26 @@ module _ (t : Table) (s : State) where
   meant GearToGear h = omega (arith, tests)
   meant ToNeutral h = omega (arith, tests)
   meant Deliver h = omega (arith, tests)
-  meant DeviceGood h = omega (arith, tests)
+  meant DeviceGood h =
+      let delay = plain-delay-in t (s .phase) (h .1 .0 .0) (let l = h .1 .0 .1 in omega arith) in
+      let e =
+      passing (withinReport s (goodBound t s)) (λ n.
+      let w = too-early s (goodBound t s) (h .1 .0) n in
+      let l = h .1 .2 (w .0) in
+      let m = w .1 in
+      omega arith)
+      in
+      omega (arith, tests)
   meant DeviceFailed h =
       let m : ¬ (orderOf (s .phase) ≤ 2) = λ l. h .1 .2 (engine-phase s (h .1 .0) l) in
+      let delay = error-delay-in t (s .phase) (h .1 .0 .0) (let l = h .1 .0 .1 in omega arith) in
+      let e =
+      passing (withinReport s (failedBound t s)) (λ n.
+      let w = too-early s (failedBound t s) (h .1 .0) n in
+      let l = h .1 .3 (w .0) in
+      let m = w .1 in
+      omega arith)
+      in
       omega (arith, tests)
   meant EngineWaits h = let o = engine-order s (h .1 .0) in omega (arith, tests)
   meant Take h =

@@ -11,14 +11,14 @@ use borrow.Author.Tests.{le-leb, eqb-true, eqb-false}
 use Rattle.checks.specs.Conditions.{OneOf}
 use Rattle.checks.proofs.Tests.{tests, case, passed, passes, right}
 use Rattle.limits.specs.declared.Table.{Table}
-use Rattle.phases.specs.Phases.{orderOf, unfinished, engine, deviceLimit}
+use Rattle.phases.specs.Phases.{orderOf, unfinished, engine, clutchOrder, deviceLimit}
 use Rattle.phases.specs.ByPhase.{deviceLimitIn, phaseLimitIn, exIn}
 use Rattle.phases.proofs.PhaseLaws.{ordered, unfinished-in}
-use Rattle.phases.proofs.ByPhaseLaws.{among, each, device-limit-in, phase-limit-in, ex-in, engine-in, engine-of}
+use Rattle.phases.proofs.ByPhaseLaws.{among, each, device-limit-in, phase-limit-in, ex-in, engine-in, engine-of, open-or-close-in, open-or-close-of}
 use Rattle.shift.specs.declared.State.{State}
 use Rattle.shift.specs.Steps.{takeBound, stageBound, phaseBound, limited}
 use Rattle.shift.proofs.StepLaws.{by-channel, limits, limited-in, shifting}
-use Rattle.promises.specs.Allowed.{Shifting, Engine}
+use Rattle.promises.specs.Allowed.{Shifting, Engine, OpenOrClose}
 
 pub passing : (b : Bool) → ¬ T (not b) → T b
 passing true n = tt
@@ -40,11 +40,30 @@ module _ (s : State) where
 abbrev pub withinEx : Table → State → Bool
 withinEx t s = leb (cond (engine (s .phase)) (s .clock) 0) (takeBound t s)
 
+abbrev pub withinReport : State → ℕ → Bool
+withinReport s bound = leb (cond (clutchOrder (s .phase)) bound 0) (s .clock)
+
 abbrev pub withinStage : Table → State → ℕ → Bool
 withinStage t s now = leb (cond (limited s) now 0) (stageBound t s)
 
 abbrev pub withinPhase : Table → State → ℕ → Bool
 withinPhase t s now = leb (cond (unfinished (s .phase)) now 0) (phaseBound t s)
+
+-- ---- the delays of the clutch: good and failed not before a bound
+module _ (s : State) (bound : ℕ) where
+  pub in-report-time : T (withinReport s bound) → OpenOrClose s → bound ≤ s .clock
+  in-report-time h z =
+      let o = open-or-close-of (s .phase) z in
+      let l = rw (passed (clutchOrder (s .phase)) (o .0)) at h in
+      omega (arith, tests)
+
+  pub too-early : Shifting s → T (not (withinReport s bound)) → OpenOrClose s × (s .clock < bound)
+  too-early z h =
+      case (clutchOrder (s .phase))
+      (λ e.
+      let l = rw e at h in
+      (open-or-close-in (s .phase) (z .0) (omega arith) (passes (clutchOrder (s .phase)) e), omega (arith, tests)))
+      (λ e. let l = rw e at h in absurd (omega (arith, tests)))
 
 module _ (t : Table) (s : State) where
   -- ---- the EX of a take

@@ -4,7 +4,7 @@ use mathlib.Core.Path.{_≡_, refl, subst}
 use mathlib.Core.Logic.{inl, inr, ⊎-elim, _↔_}
 use mathlib.Core.Bool.{Bool, true, false, not, _&&_}
 use mathlib.Core.List.{List, [], _∷_, _++_, append-nil}
-use Prim.Native.Nat.{ℕ, _+_, _≤_}
+use Prim.Native.Nat.{ℕ, _+_, _≤_, _<_}
 use native.Mathlib.Omega.{arith}
 use lib.Dec.{T, leb, eqb, eqb→eq}
 use Rattle.checks.specs.Checks.{Check, _!_, first}
@@ -13,20 +13,21 @@ use Rattle.checks.specs.Conditions.{Condition, _gives_, FirstOf, OneOf}
 use Rattle.checks.proofs.ConditionLaws.{first-of}
 use Rattle.checks.proofs.Tests.{tests, case, passes, left, right}
 use Rattle.limits.specs.declared.Table.{Table}
-use Rattle.phases.proofs.ByPhaseLaws.{each, de-in}
+use Rattle.phases.specs.Phases.{orderOf}
+use Rattle.phases.proofs.ByPhaseLaws.{each, de-in, plain-delay-in, error-delay-in}
 use Rattle.shift.specs.declared.State.{State}
 use Rattle.shift.specs.declared.Step.{Step}
 use Rattle.shift.specs.declared.Step.the-variants.{FromNeutral, GearToGear, ToNeutral, Deliver, DeviceGood, DeviceFailed, EngineWaits, Take, AskClutch, RaiseError, Finish, Tick, Reset}
 use Rattle.shift.specs.declared.Reading.{Reading}
 use Rattle.shift.specs.declared.Reading.the-variants.{Means, WrongCode, WrongAmount}
-use Rattle.shift.specs.Steps.{restsIn, shiftsIn, inEngine, inTakeTime, inAskTime, inTickTime, askBound}
+use Rattle.shift.specs.Steps.{restsIn, shiftsIn, inDevice, inEngine, inReportTime, inTakeTime, inAskTime, inTickTime, goodBound, failedBound, askBound}
 use Rattle.shift.specs.Answers.{reading, listed, checks, guard}
-use Rattle.promises.specs.Allowed.{Listed, Shifting, Permitted}
+use Rattle.promises.specs.Allowed.{Listed, Shifting, OpenOrClose, Permitted}
 use Rattle.shift.specs.Refusals.{codeOf, amountOf, Reads}
 use Rattle.shift.proofs.Refusals.{reads}
 use Rattle.promises.specs.Refusals.{placings, byCode, Misplaced, WrongSide, TooEarly, TooLate, PastClock, PastStage, PastPhase, recordRefusals}
 use Rattle.promises.proofs.Permitted.{said, meant}
-use Rattle.promises.proofs.PlaceLaws.{withinEx, engine-phase, engine-order, in-take-time, too-late, in-channel-time, in-device-time, past-stage, in-phase-time, past-phase}
+use Rattle.promises.proofs.PlaceLaws.{withinEx, withinReport, engine-phase, engine-order, in-report-time, too-early, in-take-time, too-late, in-channel-time, in-device-time, past-stage, in-phase-time, past-phase}
 
 -- ---- the number of some checks: by one, or by several with one number, and by those behind them
 pub by-test :
@@ -85,14 +86,18 @@ module _ (t : Table) (s : State) (amount : ℕ) where
   no-tick : (code : ℕ) → ¬ (code ≡ 12) → FirstOf (from-13 t s code amount) 0
   no-tick code n = inr (λ h. n (h .0), inr (λ h. n (h .0), inr (λ h. n (h .0), refl)))
 
-  untimed : (code : ℕ) → ¬ (code ≡ 8) × ¬ (code ≡ 9) × ¬ (code ≡ 12) → FirstOf (from-9 t s code amount) 0
-  untimed code n = inr (λ h. n .1 (h .0), inr (λ h. n .0 (h .0), no-tick code (n .2)))
+  pub never-early : (code : ℕ) → ¬ (code ≡ 5) × ¬ (code ≡ 6) × ¬ (code ≡ 9) → ¬ TooEarly t s code
+  never-early code n h = ⊎-elim (λ e. n .2 (e .0)) (⊎-elim (λ e. n .0 (e .0)) (λ e. n .1 (e .0))) h
 
-  -- deliver, device good, device failed, engine waits, raise error, finish and reset: 7
+  untimed :
+      (code : ℕ) → (¬ (code ≡ 5) × ¬ (code ≡ 6) × ¬ (code ≡ 9)) × ¬ (code ≡ 8) × ¬ (code ≡ 12) → FirstOf (from-9 t s code amount) 0
+  untimed code n = inr (never-early code (n .0), inr (λ h. n .1 (h .0), no-tick code (n .2)))
+
+  -- deliver, engine waits, raise error, finish and reset: 7
   placed :
       (code : ℕ) (x : Step) → T (only 7 (checks t s (Means x)))
       → (Permitted t s (Means x) ↔ (Listed s × byCode (placings s) code))
-      → (4 ≤ code) × ¬ (code ≡ 8) × ¬ (code ≡ 9) × ¬ (code ≡ 12)
+      → (4 ≤ code) × (¬ (code ≡ 5) × ¬ (code ≡ 6) × ¬ (code ≡ 9)) × ¬ (code ≡ 8) × ¬ (code ≡ 12)
       → FirstOf (from-7 t s code amount) (guard t s (Means x))
   placed code x o same n =
       let own = checks t s (Means x) in
@@ -129,13 +134,62 @@ module _ (t : Table) (s : State) (amount : ℕ) where
       inr (
         no-request 8 (omega arith),
         inr (
-          λ w. absurd (omega arith),
+          never-early 8 (omega arith),
           test (withinEx t s) 10 (TooLate t s 8) (from-13 t s 8 amount) []
               (λ b w. let l = in-take-time t s b (w .1) in let m = w .2 in omega arith)
               (λ b. let w = too-late t s z b in (refl, w .0, w .1))
               (λ b. no-tick 8 (omega arith)),
         ),
       ))
+
+  -- device good and device failed, behind 7: 9
+  reported :
+      (code bound : ℕ) → (4 ≤ code) × ¬ (code ≡ 8) × ¬ (code ≡ 12) → Shifting s
+      → (OpenOrClose s × (s .clock < bound)) ↔ TooEarly t s code
+      → FirstOf (from-8 t s code amount) (first (inReportTime s bound))
+  reported code bound n z early =
+      inr (
+        no-request code (n .0),
+        test (withinReport s bound) 9 (TooEarly t s code) ((TooLate t s code gives 10) ∷ from-13 t s code amount) []
+            (λ b w. let e = early .1 w in let l = in-report-time s bound b (e .0) in let m = e .1 in omega arith)
+            (λ b. early .0 (too-early s bound z b))
+            (λ b. inr (λ w. n .1 (w .0), no-tick code (n .2))),
+      )
+
+  pub good-too-early : Shifting s → (OpenOrClose s × (s .clock < goodBound t s)) ↔ TooEarly t s 5
+  good-too-early z =
+      let delay = plain-delay-in t (s .phase) (z .0) (let l = z .1 in omega arith) in (
+        λ e. let l = e .1 in inr (inl (refl, e .0, omega arith)),
+        ⊎-elim (λ w. absurd (let e = w .0 in omega arith)) (⊎-elim (λ w. let l = w .2 in (w .1, omega arith)) (λ w. absurd (let e = w .0 in omega arith))),
+      )
+
+  pub failed-too-early : Shifting s → (OpenOrClose s × (s .clock < failedBound t s)) ↔ TooEarly t s 6
+  failed-too-early z =
+      let delay = error-delay-in t (s .phase) (z .0) (let l = z .1 in omega arith) in (
+        λ e. let l = e .1 in inr (inr (refl, e .0, omega arith)),
+        ⊎-elim (λ w. absurd (let e = w .0 in omega arith)) (⊎-elim (λ w. absurd (let e = w .0 in omega arith)) (λ w. let l = w .2 in (w .1, omega arith))),
+      )
+
+  pub ask-too-early : Shifting s → (s .clock < askBound t s) ↔ TooEarly t s 9
+  ask-too-early z =
+      let de = de-in t (s .phase) (z .0) (let l = z .1 in omega arith) in (
+        λ l. inl (refl, omega arith),
+        ⊎-elim (λ w. let l = w .1 in omega arith) (⊎-elim (λ w. absurd (let e = w .0 in omega arith)) (λ w. absurd (let e = w .0 in omega arith))),
+      )
+
+  good : FirstOf (from-7 t s 5 amount) (guard t s (Means DeviceGood))
+  good =
+      several (listed s ++ shiftsIn s 2) (inReportTime s (goodBound t s)) 7 (Misplaced s 5) (from-8 t s 5 amount) tt
+      (λ h m. m (omega (arith, tests)))
+      (λ n p. n (omega (arith, tests)))
+      (λ h. let z : Shifting s = omega (arith, tests) in reported 5 (goodBound t s) (omega arith) z (good-too-early z))
+
+  failed : FirstOf (from-7 t s 6 amount) (guard t s (Means DeviceFailed))
+  failed =
+      several (listed s ++ (shiftsIn s 2 ++ inDevice s)) (inReportTime s (failedBound t s)) 7 (Misplaced s 6) (from-8 t s 6 amount) tt
+      (λ h m. m (omega (arith, tests), (omega (arith, tests), omega (arith, tests), λ e. let o = engine-order s e in omega (arith, tests))))
+      (λ n p. n (let o : ¬ (orderOf (s .phase) ≤ 2) = λ l. p .1 .2 (engine-phase s (p .1 .0) l) in omega (arith, tests)))
+      (λ h. let z : Shifting s = omega (arith, tests) in reported 6 (failedBound t s) (omega arith) z (failed-too-early z))
 
   -- ask clutch: 7 and 9
   ask : FirstOf (from-7 t s 9 amount) (guard t s (Means AskClutch))
@@ -145,12 +199,12 @@ module _ (t : Table) (s : State) (amount : ℕ) where
       (λ n p. n (let o = engine-order s (p .1 .0) in omega (arith, tests)))
       (λ h.
       let z : Shifting s = omega (arith, tests) in
-      let de = de-in t (s .phase) (z .0) (omega arith) in
+      let early = ask-too-early z in
       inr (
         no-request 9 (omega arith),
         test (leb (askBound t s) (s .clock)) 9 (TooEarly t s 9) ((TooLate t s 9 gives 10) ∷ from-13 t s 9 amount) []
-            (λ b w. let early = w .1 in omega (arith, tests))
-            (λ b. (refl, omega (arith, tests)))
+            (λ b w. let l = early .1 w in omega (arith, tests))
+            (λ b. early .0 (omega (arith, tests)))
             (λ b. inr (λ w. absurd (omega arith), no-tick 9 (omega arith))),
       ))
 
@@ -165,7 +219,7 @@ module _ (t : Table) (s : State) (amount : ℕ) where
       inr (
         no-request 12 (omega arith),
         inr (
-          λ w. absurd (omega arith),
+          never-early 12 (omega arith),
           inr (
             λ w. absurd (omega arith),
             first-of (inTickTime t s now) (from-13 t s 12 amount) (
@@ -213,8 +267,8 @@ on-state t s FromNeutral = request t s 0 1 0 (omega arith) (λ p. p, λ p. p) (n
 on-state t s GearToGear = request t s 0 2 1 (omega arith) (λ p. p, λ p. p) (not-in-gear s 2 (inl refl))
 on-state t s ToNeutral = request t s 0 3 1 (omega arith) (λ p. p, λ p. p) (not-in-gear s 3 (inr (inl refl)))
 on-state t s Deliver = placed t s 0 4 Deliver tt (λ p. p, λ p. p) (omega arith)
-on-state t s DeviceGood = placed t s 0 5 DeviceGood tt (λ p. p, λ p. p) (omega arith)
-on-state t s DeviceFailed = placed t s 0 6 DeviceFailed tt (λ p. p, λ p. p) (omega arith)
+on-state t s DeviceGood = good t s 0
+on-state t s DeviceFailed = failed t s 0
 on-state t s EngineWaits = placed t s 0 7 EngineWaits tt (λ p. p, λ p. p) (omega arith)
 on-state t s Take = take t s 0
 on-state t s AskClutch = ask t s 0

@@ -1,13 +1,13 @@
--- Document 01, "The twelve steps", and document 02's thirteenth, a second time and in their words: the column "allowed when" as a
--- relation, beside the list of checks that `shift` has. Phases and limits are those of `phases/specs/ByPhase.antt`: with the checks it
--- shares nothing but the fields of a state and of a table.
+-- Document 01, "The twelve steps", and document 02's thirteenth and its delays of the clutch, a second time and in their words: the
+-- column "allowed when" as a relation, beside the list of checks that `shift` has. Phases, limits and delays are those of
+-- `phases/specs/ByPhase.antt`: with the checks it shares nothing but the fields of a state and of a table.
 -- Assumes nothing.
 use mathlib.Core.Path.{_≡_}
 use mathlib.Core.List.{[], _∷_}
 use Prim.Native.Nat.{ℕ, _+_, _≤_}
 use Rattle.checks.specs.Conditions.{OneOf}
 use Rattle.limits.specs.declared.Table.{Table}
-use Rattle.phases.specs.ByPhase.{enginePhases, deviceLimitIn, phaseLimitIn, exIn, deIn}
+use Rattle.phases.specs.ByPhase.{enginePhases, openOrClosePhases, deviceLimitIn, phaseLimitIn, exIn, deIn, plainDelayIn, errorDelayIn}
 use Rattle.shift.specs.declared.State.{State}
 use Rattle.shift.specs.declared.Reading.{Reading}
 use Rattle.shift.specs.declared.Reading.the-variants.{Means, WrongCode, WrongAmount}
@@ -28,6 +28,10 @@ Shifting s = (1 ≤ s .phase) × (s .phase ≤ 21)
 abbrev pub Engine : State → Type 0
 Engine s = OneOf enginePhases (s .phase)
 
+-- an open phase, 2, 7, 11 or 18, or a close phase, 5, 15, 16 or 21
+abbrev pub OpenOrClose : State → Type 0
+OpenOrClose s = OneOf openOrClosePhases (s .phase)
+
 -- in phases 1 to 21 the new clock does not pass stage time + Ch in stages sent and good, stage time + device limit in stage
 -- working, phase time + phase limit in any stage
 pub record InTime (t : Table) (s : State) (now : ℕ) : Type 0 where
@@ -40,8 +44,10 @@ Allowed t s FromNeutral = (s .phase ≡ 0) × (s .«gear_box» ≡ 0)
 Allowed t s GearToGear = (s .phase ≡ 0) × (s .«gear_box» ≡ 1)
 Allowed t s ToNeutral = (s .phase ≡ 0) × (s .«gear_box» ≡ 1)
 Allowed t s Deliver = Shifting s × (s .stage ≡ 1)
-Allowed t s DeviceGood = Shifting s × (s .stage ≡ 2)
-Allowed t s DeviceFailed = Shifting s × (s .stage ≡ 2) × ¬ Engine s
+Allowed t s DeviceGood =
+    Shifting s × (s .stage ≡ 2) × (OpenOrClose s → s .«stage_time» + plainDelayIn t (s .phase) ≤ s .clock)
+Allowed t s DeviceFailed =
+    Shifting s × (s .stage ≡ 2) × ¬ Engine s × (OpenOrClose s → s .«stage_time» + errorDelayIn t (s .phase) ≤ s .clock)
 Allowed t s EngineWaits = Engine s × (s .stage ≡ 2)
 Allowed t s Take =
     Shifting s × (s .stage ≡ 3) × (Engine s → s .clock ≤ s .«phase_time» + exIn t (s .phase))

@@ -6,3 +6,4 @@ pub mod Answered
 pub mod Kinds
 pub mod Verdicts
 pub mod Before
+pub mod OldFleet

@@ -1,6 +1,6 @@
--- Document 01, "Numbers for what is refused", a second time: of one step on any given state and table the condition of each number, in
--- the document's words and by the numbers of codes, phases and stages. With the checks of `shift` it shares nothing but the fields of a
--- state and of a table.
+-- Document 01, "Numbers for what is refused", with document 02's request 6, a second time: of one step on any given state and table
+-- the condition of each number, in the document's words and by the numbers of codes, phases and stages. With the checks of `shift` it
+-- shares nothing but the fields of a state and of a table.
 -- Assumes nothing.
 use mathlib.Core.Path.{_≡_}
 use mathlib.Core.Logic.{_⊎_}
@@ -9,10 +9,10 @@ use Prim.Native.Nat.{ℕ, zero, suc, _+_, _<_}
 use Rattle.checks.specs.Conditions.{Condition, _gives_, OneOf}
 use Rattle.limits.specs.declared.Table.{Table}
 use Rattle.limits.specs.Refusals.{Admitted}
-use Rattle.phases.specs.ByPhase.{deviceLimitIn, phaseLimitIn, exIn, deIn}
+use Rattle.phases.specs.ByPhase.{deviceLimitIn, phaseLimitIn, exIn, deIn, plainDelayIn, errorDelayIn}
 use Rattle.shift.specs.declared.State.{State}
 use Rattle.shift.specs.Refusals.{NoCode, Malformed}
-use Rattle.promises.specs.Allowed.{Listed, Shifting, Engine}
+use Rattle.promises.specs.Allowed.{Listed, Shifting, Engine, OpenOrClose}
 
 -- 4: the table breaks a rule
 abbrev pub NotAdmitted : Table → Type 0
@@ -50,9 +50,12 @@ abbrev pub WrongSide : State → ℕ → Type 0
 WrongSide s code =
     (s .phase ≡ 0) × (((code ≡ 1) × ¬ (s .«gear_box» ≡ 0)) ⊎ (OneOf (2 ∷ 3 ∷ []) code × ¬ (s .«gear_box» ≡ 1)))
 
--- 9: ask clutch too early
+-- 9: ask clutch too early; in open and close phases device good before the plain delay, device failed before the error delay
 abbrev pub TooEarly : Table → State → ℕ → Type 0
-TooEarly t s code = (code ≡ 9) × (s .clock < s .«phase_time» + deIn t (s .phase))
+TooEarly t s code =
+    ((code ≡ 9) × (s .clock < s .«phase_time» + deIn t (s .phase)))
+    ⊎ (((code ≡ 5) × OpenOrClose s × (s .clock < s .«stage_time» + plainDelayIn t (s .phase)))
+    ⊎ ((code ≡ 6) × OpenOrClose s × (s .clock < s .«stage_time» + errorDelayIn t (s .phase))))
 
 -- 10: take too late
 abbrev pub TooLate : Table → State → ℕ → Type 0

@@ -18,6 +18,7 @@ use Rattle.shift.specs.declared.Reading.{Reading}
 use Rattle.shift.specs.declared.Reading.the-variants.{Means, WrongCode, WrongAmount}
 use Rattle.shift.specs.declared.Answer.{Answer}
 use Rattle.shift.specs.Steps.{allowed, effect}
+use Rattle.shift.specs.Excess.{earlyBound}
 use Rattle.shift.specs.Answers.{refusal, checksOf, refused, answer, answerTo, admitting}
 use Rattle.shift.proofs.Reading.{the-type}
 use Rattle.shift.proofs.Step.{the-type as step-type}
@@ -60,6 +61,25 @@ no-tick s RaiseError o = refl
 no-tick s Finish o = refl
 no-tick s (Tick n) o = absurd (miss others 11 tt o)
 no-tick s Reset o = refl
+
+-- of the steps that are neither device good, device failed nor ask clutch none is too early
+abbrev never : List ℕ
+never = 0 ∷ 1 ∷ 2 ∷ 3 ∷ 6 ∷ 7 ∷ 9 ∷ 10 ∷ 11 ∷ 12 ∷ []
+
+pub never-early : (t : Table) (s : State) (x : Step) → OneOf never (tagOf step-type x) → 0 ≡ earlyBound t s x
+never-early t s FromNeutral o = refl
+never-early t s GearToGear o = refl
+never-early t s ToNeutral o = refl
+never-early t s Deliver o = refl
+never-early t s DeviceGood o = absurd (miss never 4 tt o)
+never-early t s DeviceFailed o = absurd (miss never 5 tt o)
+never-early t s EngineWaits o = refl
+never-early t s Take o = refl
+never-early t s AskClutch o = absurd (miss never 8 tt o)
+never-early t s RaiseError o = refl
+never-early t s Finish o = refl
+never-early t s (Tick n) o = refl
+never-early t s Reset o = refl
 
 pub in-clock :
     (t : Table) (s : State) (x : Step) → first (allowed t s x) ≡ 0 → s .clock ≤ 4294967295

@@ -1,17 +1,18 @@
 -- Document 01, "Small table of known runs": K1 to K13, and the statement that the definitions give these answers, the state in all of
--- its fields; the case for which document 02 moved the box and added the reset; and excesses that can be followed by hand.
+-- its fields; the case for which document 02 moved the box and added the reset; excesses that can be followed by hand; and runs on both
+-- sides of each delay of the house.
 -- Assumes nothing.
 use mathlib.Core.Path.{_≡_, refl}
 use mathlib.Core.List.{List, [], _∷_, _++_, map}
 use Prim.Native.Nat.{ℕ}
 use lib.ListN.{set}
 use Rattle.limits.specs.declared.Table.{Table}
-use Rattle.limits.specs.Limits.{entries, tableOf, default}
+use Rattle.limits.specs.Limits.{limits, entries, tableOf, default, house}
 use Rattle.limits.specs.Rules.{brokenRule}
 use Rattle.shift.specs.declared.State.{State}
 use Rattle.shift.specs.declared.Reading.{Reading}
 use Rattle.shift.specs.declared.Answer.{Answer}
-use Rattle.shift.specs.States.{start, neutral, inGear, none, sent, working, good, waiting}
+use Rattle.shift.specs.States.{start, neutral, inGear, none, sent, working, good, failed, waiting}
 use Rattle.shift.specs.Answers.{reading, stepOn}
 use Rattle.shift.specs.Runs.{Outcome, run}
 
@@ -148,3 +149,46 @@ pub record HowFarOver : Type 0 where
 
 pub how-far-over : HowFarOver
 how-far-over = record { past-both = refl; past-the-clock = refl; past-32-bits = refl }
+
+-- ---- the house values, 20, 60, 20, 60: a device good and a device failed one below their delay and at it, in an open and in a close
+-- phase. The clutch was asked for at 151 and delivered 3 later, so that the delay does not run from the phase's time; in the wrong stage
+-- it is 7, though it is too early too.
+abbrev opening : List Reading
+opening = step 1 ∷ step 4 ∷ step 7 ∷ t 151 ∷ step 9 ∷ t 3 ∷ step 4 ∷ []
+
+abbrev closing : List Reading
+closing = opening ++ (t 20 ∷ step 5 ∷ step 8 ∷ step 4 ∷ step 5 ∷ step 8 ∷ t 3 ∷ step 4 ∷ [])
+
+abbrev delayed : List Known
+delayed =
+    -- open, plain
+    over (opening ++ (t 19 ∷ step 5 ∷ [])) 8 9 1 (state 173 neutral 2 151 working 154 0 0)
+    ∷ known (opening ++ (t 20 ∷ step 5 ∷ [])) 9 0 (state 174 neutral 2 151 good 174 0 0)
+    -- open, error
+    ∷ over (opening ++ (t 59 ∷ step 6 ∷ [])) 8 9 1 (state 213 neutral 2 151 working 154 0 0)
+    ∷ known (opening ++ (t 60 ∷ step 6 ∷ [])) 9 0 (state 214 neutral 2 151 failed 214 0 0)
+    -- close, plain
+    ∷ over (closing ++ (t 19 ∷ step 5 ∷ [])) 16 9 1 (state 196 inGear 5 174 working 177 0 0)
+    ∷ known (closing ++ (t 20 ∷ step 5 ∷ [])) 17 0 (state 197 inGear 5 174 good 197 0 0)
+    -- close, error
+    ∷ over (closing ++ (t 59 ∷ step 6 ∷ [])) 16 9 1 (state 236 inGear 5 174 working 177 0 0)
+    ∷ known (closing ++ (t 60 ∷ step 6 ∷ [])) 17 0 (state 237 inGear 5 174 failed 237 0 0)
+    -- not before it is delivered
+    ∷ known (step 1 ∷ step 4 ∷ step 7 ∷ t 151 ∷ step 9 ∷ step 5 ∷ []) 5 7 (state 151 neutral 2 151 sent 151 0 0)
+    ∷ []
+
+-- the house's table with other delays: plain and error, opening and closing
+abbrev delaying : ℕ → ℕ → ℕ → ℕ → Table
+delaying a b c d = tableOf (limits house ++ (a ∷ b ∷ c ∷ d ∷ []))
+
+-- They end so. Rule 16 is broken by delays of one order alone, by a plain one of 0, by an error delay that is its plain one, and by one
+-- past the device's limit of 150; not by the house values, by 1 and 2, by an error delay of 150, and by four zeros
+pub record KnownDelays : Type 0 where
+  pub runs : map (λ k. run house start (k .steps)) delayed ≡ map (λ k. k .ends) delayed
+  pub broken :
+      map brokenRule (delaying 20 60 0 0 ∷ delaying 0 0 20 60 ∷ delaying 0 60 20 60 ∷ delaying 20 20 20 60 ∷ delaying 20 60 20 20 ∷ delaying 20 151 20 60 ∷ delaying 20 60 20 151 ∷ [])
+      ≡ 16 ∷ 16 ∷ 16 ∷ 16 ∷ 16 ∷ 16 ∷ 16 ∷ []
+  pub kept : map brokenRule (house ∷ delaying 1 2 1 2 ∷ delaying 20 150 20 150 ∷ delaying 0 0 0 0 ∷ []) ≡ 0 ∷ 0 ∷ 0 ∷ 0 ∷ []
+
+pub known-delays : KnownDelays
+known-delays = record { runs = refl; broken = refl; kept = refl }

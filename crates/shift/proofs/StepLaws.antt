@@ -4,7 +4,7 @@ use mathlib.Core.Path.{_≡_, refl, sym, subst}
 use mathlib.Core.Bool.{Bool, true, false, cond, _&&_, _||_}
 use mathlib.Core.Logic.{⊎-elim}
 use mathlib.Core.List.{List, [], _∷_}
-use Prim.Native.Nat.{ℕ, _≤_, _<_, zero-le}
+use Prim.Native.Nat.{ℕ, _+_, _≤_, _<_, zero-le}
 use native.Mathlib.Decide.{decLt}
 use native.Mathlib.Omega.{arith}
 use lib.Dec.{T, leb, ltb, eqb, leb→le, eqb→eq}
@@ -18,9 +18,9 @@ use Rattle.phases.proofs.PhaseLaws.{ordered, unfinished-in}
 use Rattle.phases.proofs.CaseLaws.{NoneOf, otherwise}
 use Rattle.limits.specs.declared.Table.{Table}
 use Rattle.shift.specs.declared.State.{State}
-use Rattle.phases.specs.Phases.{orderOf, deviceLimit, unfinished, engine}
+use Rattle.phases.specs.Phases.{orderOf, deviceLimit, unfinished, engine, clutchOrder}
 use Rattle.shift.specs.States.{good}
-use Rattle.shift.specs.Steps.{shiftsIn, takeBound, inTakeTime, stageLimit, limited}
+use Rattle.shift.specs.Steps.{shiftsIn, takeBound, inTakeTime, inReportTime, stageLimit, limited}
 
 -- three tests of one number, and one that asks for all
 pub all-three : (a b c : Bool) (k : ℕ) → cond ((a && b) && c) 0 k ≡ cond a (cond b (cond c 0 k) k) k
@@ -125,3 +125,28 @@ engine-check t s z m e =
     let held = first→holds 0 (shiftsIn s good) tt z in
     let some = ordered (s .phase) (omega (arith, tests)) (omega (arith, tests)) in
     rw (in-engine (s .phase) (s .clock) some m) (one-check (s .clock) (takeBound t s) 10 e)
+
+-- ---- the delays, in the open and close phases
+module _ (p x : ℕ) where
+  pub in-clutch : 3 ≤ orderOf p → orderOf p ≤ 4 → cond (clutchOrder p) x 0 ≡ x
+  in-clutch l m = rw (le-leb 3 (orderOf p) l, le-leb (orderOf p) 4 m)
+
+  pub before-clutch : orderOf p < 3 → cond (clutchOrder p) x 0 ≡ 0
+  before-clutch l = rw (lt-leb 3 (orderOf p) l)
+
+  pub past-clutch : 4 < orderOf p → cond (clutchOrder p) x 0 ≡ 0
+  past-clutch m = rw (le-leb 3 (orderOf p) (omega arith), lt-leb (orderOf p) 4 m)
+
+-- what is asked of the time by a delay, and nothing where the order is not the clutch's
+pub not-before-a-delay :
+    (s : State) (delay : ℕ) → 3 ≤ orderOf (s .phase) → orderOf (s .phase) ≤ 4
+    → cond (ltb (s .clock) (s .«stage_time» + delay)) 9 0 ≡ first (inReportTime s (s .«stage_time» + delay))
+not-before-a-delay s delay l m =
+    let bound = s .«stage_time» + delay in rw (in-clutch (s .phase) bound l m) (one-check bound (s .clock) 9 refl)
+
+pub at-any-time : (s : State) (bound : ℕ) → ¬ (orderOf (s .phase) ≡ 3) → ¬ (orderOf (s .phase) ≡ 4) → 0 ≡ first (inReportTime s bound)
+at-any-time s bound n m =
+    elim (decLt (orderOf (s .phase)) 3) [
+      | yes l ↦ rw (before-clutch (s .phase) bound l, le-leb 0 (s .clock) zero-le)
+      | no l ↦ rw (past-clutch (s .phase) bound (omega arith), le-leb 0 (s .clock) zero-le)
+    ]

@@ -17,7 +17,7 @@ use Rattle.shift.specs.declared.Answer.{Answer}
 use Rattle.phases.specs.Phases.{error}
 use Rattle.shift.specs.States.{waiting}
 use Rattle.shift.specs.Steps.{allowed, effect}
-use Rattle.shift.specs.Excess.{excessBy}
+use Rattle.shift.specs.Excess.{earlyBound, excessBy}
 
 -- ---- what a code, a middle byte and an amount mean
 
@@ -82,9 +82,15 @@ led s (Means x) = effect s x
 led s WrongCode = s
 led s WrongAmount = s
 
+-- the clock before which it is too early
+abbrev pub earliest : Table → State → Reading → ℕ
+earliest t s (Means x) = earlyBound t s x
+earliest t s WrongCode = 0
+earliest t s WrongAmount = 0
+
 -- by how many milliseconds what this number refuses is too early or past the limit
 abbrev pub excess : Table → State → Reading → ℕ → ℕ
-excess t s r number = excessBy t s (led s r .clock) number
+excess t s r number = excessBy t s (earliest t s r) (led s r .clock) number
 
 -- ---- the answer
 

@@ -1,4 +1,4 @@
--- Document 01, "The twelve steps", and document 02's thirteenth: when each is allowed, and its effect.
+-- Document 01, "The twelve steps", and document 02's thirteenth and its delays of the clutch: when each is allowed, and its effect.
 -- Assumes nothing.
 use mathlib.Core.Bool.{Bool, cond, _&&_}
 use mathlib.Core.List.{List, [], _∷_, _++_}
@@ -10,7 +10,7 @@ use Rattle.limits.specs.declared.Table.{Table}
 use Rattle.shift.specs.declared.State.{State}
 use Rattle.shift.specs.declared.Step.{Step}
 use Rattle.shift.specs.declared.Step.the-variants.{FromNeutral, GearToGear, ToNeutral, Deliver, DeviceGood, DeviceFailed, EngineWaits, Take, AskClutch, RaiseError, Finish, Tick, Reset}
-use Rattle.phases.specs.Phases.{zeroTorque, set, release, atRest, done, error, orderOf, nextOf, clutchOf, deviceLimit, phaseLimit, latestTake, earliestAsk, unfinished, engine}
+use Rattle.phases.specs.Phases.{zeroTorque, set, release, atRest, done, error, orderOf, nextOf, clutchOf, deviceLimit, phaseLimit, latestTake, earliestAsk, plainDelay, errorDelay, unfinished, engine, clutchOrder}
 use Rattle.shift.specs.States.{neutral, inGear, sent, working, good, failed, waiting, entered}
 
 -- ---- allowed when
@@ -44,6 +44,16 @@ askBound t s = s .«phase_time» + earliestAsk t (orderOf (s .phase))
 abbrev pub inAskTime : Table → State → List Check
 inAskTime t s = (leb (askBound t s) (s .clock) ! 9) ∷ []
 
+-- in open and close phases clock ≥ stage time + the plain delay for good, the error delay for failed
+abbrev pub goodBound : Table → State → ℕ
+goodBound t s = s .«stage_time» + plainDelay t (orderOf (s .phase))
+
+abbrev pub failedBound : Table → State → ℕ
+failedBound t s = s .«stage_time» + errorDelay t (orderOf (s .phase))
+
+abbrev pub inReportTime : State → ℕ → List Check
+inReportTime s bound = (leb (cond (clutchOrder (s .phase)) bound 0) (s .clock) ! 9) ∷ []
+
 -- In phases 1 to 21 the new clock of a tick may not pass stage time + Ch (stages sent and good), stage time + device limit
 -- (working), nor phase time + phase limit (any stage). Equal is allowed.
 abbrev pub stageLimit : Table → State → ℕ
@@ -76,8 +86,8 @@ allowed t s FromNeutral = restsIn s neutral
 allowed t s GearToGear = restsIn s inGear
 allowed t s ToNeutral = restsIn s inGear
 allowed t s Deliver = shiftsIn s sent
-allowed t s DeviceGood = shiftsIn s working
-allowed t s DeviceFailed = shiftsIn s working ++ inDevice s
+allowed t s DeviceGood = shiftsIn s working ++ inReportTime s (goodBound t s)
+allowed t s DeviceFailed = shiftsIn s working ++ (inDevice s ++ inReportTime s (failedBound t s))
 allowed t s EngineWaits = shiftsIn s working ++ inEngine s
 allowed t s Take = shiftsIn s good ++ inTakeTime t s
 allowed t s AskClutch = shiftsIn s waiting ++ (inEngine s ++ inAskTime t s)

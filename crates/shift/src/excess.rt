@@ -1,29 +1,28 @@
 // How far over a refused step is: the milliseconds by which it is too early or past the limit.
 ghost use mathlib.Core.Path.{_≡_};
 ghost use Rattle.shift.specs.Steps.{effect, stageLimit};
-ghost use Rattle.shift.specs.Excess.{excessBy};
+ghost use Rattle.shift.specs.Excess.{earlyBound, excessBy};
 use crate::State;
 use crate::Step;
 use limits::Table;
 use phases::device_limit;
 use phases::earliest_ask;
+use phases::error_delay;
 use phases::latest_take;
 use phases::order_of;
 use phases::phase_limit;
+use phases::plain_delay;
 use times::beyond;
 use times::bound;
 
 impl State {
-    // By the number that refuses; `now` is the clock that the step leads to. Every number but 9 to 13 carries 0.
-    pub(crate) fn excess(self, table: Table, now: u64, number: u8) -> u64
-        ensures { λ r. ⌜ r ≡ excessBy table self now number ⌝ }
+    // Of a step, by the number that refuses it; `now` is the clock that it leads to. Every number but 9 to 13 carries 0.
+    pub(crate) fn excess(self, table: Table, x: Step, now: u64, number: u8) -> u64
+        ensures { λ r. ⌜ r ≡ excessBy table self (earlyBound table self x) now number ⌝ }
     {
         let order = order_of(self.phase);
         match number {
-            9 => beyond(
-                bound(self.phase_time, earliest_ask(table, order)),
-                self.clock as u64,
-            ),
+            9 => beyond(self.early_bound(table, x), self.clock as u64),
             10 => beyond(
                 self.clock as u64,
                 bound(self.phase_time, latest_take(table, order)),
@@ -44,6 +43,19 @@ impl State {
             1 => table.channel_dl,
             2 => device_limit(table, order_of(self.phase)),
             3 => table.channel_dl,
+            _ => 0,
+        }
+    }
+
+    // The clock before which a step is too early, 0 where it is never.
+    fn early_bound(self, table: Table, x: Step) -> u64
+        ensures { λ r. ⌜ r ≡ earlyBound table self x ⌝ }
+    {
+        let order = order_of(self.phase);
+        match x {
+            Step::DeviceGood => bound(self.stage_time, plain_delay(table, order)),
+            Step::DeviceFailed => bound(self.stage_time, error_delay(table, order)),
+            Step::AskClutch => bound(self.phase_time, earliest_ask(table, order)),
             _ => 0,
         }
     }

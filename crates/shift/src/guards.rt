@@ -2,16 +2,18 @@
 ghost use mathlib.Core.Path.{_≡_};
 ghost use mathlib.Core.Bool.{cond};
 ghost use mathlib.Core.List.{_++_};
-ghost use Prim.Native.Nat.{_+_};
+ghost use Prim.Native.Nat.{ℕ, _+_};
 ghost use lib.Dec.{ltb};
 ghost use Rattle.checks.specs.Checks.{first};
-ghost use Rattle.phases.specs.Phases.{unfinished};
+ghost use Rattle.phases.specs.Phases.{«open», close, orderOf, unfinished};
 ghost use Rattle.shift.specs.States.{working, good, waiting};
-ghost use Rattle.shift.specs.Steps.{restsIn, shiftsIn, inDevice, inEngine, inTakeTime, inAskTime, inTickTime, standsIn, stageBound, phaseBound, limited, allowed};
+ghost use Rattle.shift.specs.Steps.{restsIn, shiftsIn, inDevice, inEngine, goodBound, failedBound, inReportTime, inTakeTime, inAskTime, inTickTime, standsIn, stageBound, phaseBound, limited, allowed};
 ghost use Rattle.shift.specs.Answers.{listed};
 use crate::State;
 use crate::Step;
 use limits::Table;
+use phases::CLOSE;
+use phases::OPEN;
 use phases::ZERO_TORQUE;
 use phases::device_limit;
 use phases::earliest_ask;
@@ -34,8 +36,8 @@ impl State {
             Step::GearToGear => self.rests_in(1),
             Step::ToNeutral => self.rests_in(1),
             Step::Deliver => self.shifts_in(1),
-            Step::DeviceGood => self.shifts_in(2),
-            Step::DeviceFailed => self.in_device(),
+            Step::DeviceGood => self.in_good_time(table),
+            Step::DeviceFailed => self.in_failed_time(table),
             Step::EngineWaits => self.in_engine(2),
             Step::Take => self.in_take_time(table),
             Step::AskClutch => self.in_ask_time(table),
@@ -114,6 +116,49 @@ impl State {
         }
         if ZERO_TORQUE < order_of(self.phase) {
             return 7;
+        }
+        0
+    }
+
+    // Working, and on a clutch order not before its plain delay.
+    fn in_good_time(self, table: Table) -> u8
+        ensures { λ r. ⌜ r ≡ first (shiftsIn self working ++ inReportTime self (goodBound table self)) ⌝ }
+    {
+        let number = self.shifts_in(2);
+        if number != 0 {
+            return number;
+        }
+        self.in_report_time(table.clutch_open_de, table.clutch_close_de)
+    }
+
+    // Working on a clutch or gear order, and on a clutch order not before its error delay.
+    fn in_failed_time(self, table: Table) -> u8
+        ensures { λ r. ⌜ r ≡ first (shiftsIn self working ++ (inDevice self ++ inReportTime self (failedBound table self))) ⌝ }
+    {
+        let number = self.in_device();
+        if number != 0 {
+            return number;
+        }
+        self.in_report_time(table.error_clutch_open_de, table.error_clutch_close_de)
+    }
+
+    // In open phases not before the one delay, in close phases not before the other.
+    fn in_report_time(self, opening: u16, closing: u16) -> u8
+        ensures { λ r. ⌜ ((delay : ℕ) → (orderOf (self .phase) ≡ «open» → delay ≡ opening) → (orderOf (self .phase) ≡ close → delay ≡ closing) → r ≡ first (inReportTime self (self .«stage_time» + delay))) ⌝ }
+    {
+        match order_of(self.phase) {
+            OPEN => self.not_before(opening),
+            CLOSE => self.not_before(closing),
+            _ => 0,
+        }
+    }
+
+    // Not before this delay of the stage.
+    fn not_before(self, delay: u16) -> u8
+        ensures { λ r. ⌜ r ≡ cond (ltb (self .clock) (self .«stage_time» + delay)) 9 0 ⌝ }
+    {
+        if is_early(self.clock, self.stage_time, delay) {
+            return 9;
         }
         0
     }

@@ -225,7 +225,7 @@ impl State {
         let number = self.guard(table, x);
         if number != 0 {
             let now = self.clock_after(x);
-            return self.refused(number, self.excess(table, now, number));
+            return self.refused(number, self.excess(table, x, now, number));
         }
         let next = self.effect(x);
         Answer {

@@ -13,9 +13,11 @@ use Rattle.promises.proofs.Runs.{joined, pieces}
 use Rattle.shift.specs.declared.State.{State}
 use Rattle.shift.specs.States.{start}
 use Rattle.shift.specs.Runs.{Outcome, run}
+use Rattle.stepfile.specs.declared.write.Wish.the-variants.{Given}
 use Rattle.stepfile.specs.Records.{recordOf, recordsIn}
 use Rattle.stepfile.specs.Files.{recordCount, recordOffset, tableIn, refusalOf, recordBytes, readingsOf}
-use Rattle.stepfile.proofs.WholeLaws.{good-file}
+use Rattle.stepfile.specs.Writing.{mostFor}
+use Rattle.stepfile.proofs.WholeLaws.{good-file, no-more-than-written}
 use Rattle.stepfile.proofs.TableLaws.{records-from}
 use Rattle.stepfile.proofs.RoundTrip.{as-many-records}
 use Rattle.trace.specs.Traces.{traceOf}
@@ -50,9 +52,6 @@ module _ (f : List ℕ) (z : refusalOf f .number ≡ 0) where
       let there = ap length (records-from f z (omega (arith, g .whole))) ∙ length-drop (recordOffset f) f in
       omega (arith, there, g .whole, g .follow)
 
-  few-of : recordCount f ≤ 16372
-  few-of = good-file f z .most
-
 module _ (f g bytes : List ℕ) (a : Appended f g bytes) where
   good-f : refusalOf f .number ≡ 0
   good-f = read f (a .accepted)
@@ -75,10 +74,11 @@ module _ (f g bytes : List ℕ) (a : Appended f g bytes) where
   pub readings-are : readingsOf g ≡ readingsOf f ++ recordsIn bytes
   readings-are = ap recordsIn (a .records) ∙ records-append (recordCount f) (recordBytes f) bytes (bytes-long f good-f)
 
-  pub few-records : count + length bytes / 4 ≤ 16372
+  pub few-records : count + length bytes / 4 ≤ mostFor (Given (tableIn f))
   few-records =
       let all = sym (bytes-long g (a .good)) ∙ ap length (a .records) ∙ length-append (recordBytes f) bytes in
-      omega (arith, all, bytes-long f good-f, few-of g (a .good), accepted-files f good-f (a .accepted))
+      let most = ap (λ (t : Table). mostFor (Given t)) (a .table) in
+      omega (arith, all, bytes-long f good-f, no-more-than-written g (a .good), most, accepted-files f good-f (a .accepted))
 
   pub admitted : brokenRule (tableIn f) ≡ 0
   admitted = good-file f good-f .admitted

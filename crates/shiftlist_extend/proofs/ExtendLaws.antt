@@ -20,7 +20,10 @@ use Rattle.promises.proofs.Promises.{accepted-up-to-the-first-forbidden-step}
 use Rattle.shift.specs.declared.State.{State}
 use Rattle.shift.specs.declared.Reading.{Reading}
 use Rattle.shift.specs.Runs.{Outcome, run}
+use Rattle.stepfile.specs.declared.write.Wish.the-variants.{Given}
 use Rattle.stepfile.specs.Records.{recordsIn}
+use Rattle.stepfile.specs.Writing.{entriesFor, mostFor}
+use Rattle.stepfile.proofs.EntryLaws.{most-between}
 use Rattle.trace.specs.Traces.{Trace, traceOf}
 use Rattle.trace.proofs.TraceLaws.{Sound, accepted-sound}
 use Rattle.shiftlist.specs.declared.Shift.{Shift}
@@ -121,13 +124,15 @@ module _ (l : List ℕ) (held : ℕ) (s : State) (count : ℕ) (t : Table) (byte
       let other = ne-eqb (extendedOf l held s count t bytes .number) 0 (λ z. m (ap (λ (q : Listed). q .number) e ∙ z)) in
       (e, ap (λ b. cond b stored l) (sym other))
 
-  -- the grounds by the rule that was found broken
+  -- the grounds by the rule that was found broken, and the record maximum that was found
+  abbrev pub groundFor : ℕ → ℕ → ℕ
+  groundFor most rule =
+      first (groundsBy (length l) held (u32At l 4) (u32At l 0) (lastEntry l held s count t bytes) s count (length bytes / 4) most rule)
+
   pub by-rule :
-      (rule k : ℕ) → rule ≡ brokenRule t
-      → k ≡ first (groundsBy (length l) held (u32At l 4) (u32At l 0) (lastEntry l held s count t bytes) s count (length bytes / 4) rule)
+      (rule most k : ℕ) → rule ≡ brokenRule t → most ≡ mostFor (Given t) → k ≡ groundFor most rule
       → k ≡ first (grounds l held s count t bytes)
-  by-rule rule k e h =
-      h ∙ ap (λ q. first (groundsBy (length l) held (u32At l 4) (u32At l 0) (lastEntry l held s count t bytes) s count (length bytes / 4) q)) e
+  by-rule rule most k e m h = h ∙ ap (groundFor most) e ∙ ap (λ n. groundFor n (brokenRule t)) m
 
   pub at-ground : (k : ℕ) → k ≡ first (grounds l held s count t bytes) → ¬ (k ≡ 0) → Leaves (refusedBy k (cond (eqb k 4) (brokenRule t) 0) 0 0) l
   at-ground k e m =
@@ -140,7 +145,8 @@ module _ (l : List ℕ) (held : ℕ) (s : State) (count : ℕ) (t : Table) (byte
 
     pub told : Grounded (length l) held (u32At l 0) (lastEntry l held s count t bytes) s count (length bytes / 4)
     told =
-        grounded (length l) held (u32At l 4) (u32At l 0) (lastEntry l held s count t bytes) s count (length bytes / 4) (brokenRule t) g
+        grounded (length l) held (u32At l 4) (u32At l 0) (lastEntry l held s count t bytes) s count (length bytes / 4)
+        (mostFor (Given t)) (brokenRule t) (most-between (length (entriesFor t)) .1) g
 
     pub at-run : (o : Outcome) → o ≡ run t s (recordsIn bytes) → ¬ (o .number ≡ 0) → Leaves (refusedBy (o .number) 0 (count + o .count) (o .excess)) l
     at-run o e m =

@@ -1,6 +1,5 @@
 -- Extended equals fresh: for the list, the state and the record count of an accepted file, what `extend` answers and leaves is what
--- `build` answers and leaves for the longer file, byte for byte; of whatever both contracts allow. Earlier entries are untouched except
--- a last open one.
+-- `build` answers and leaves for the longer file, byte for byte; of whatever both contracts allow.
 -- Assumes nothing.
 use mathlib.Core.Path.{_≡_, sym, ap, _∙_}
 use mathlib.Core.Bool.{cond}

@@ -17,16 +17,16 @@ use Rattle.shiftlist_extend.specs.Resuming.{placeOf}
 
 -- ---- the last ground, where the others hold
 module _
-    (len held offset shifts : ℕ) (e : Shift) (s : State) (count more rule : ℕ) (a : held ≤ len) (b : 8 ≤ held) (c : offset ≡ 8)
-    (d : held ≡ 8 + 16 * shifts) (f : count + more ≤ 16372) (g : shifts ≤ count) (h : rule ≡ 0) where
-  pub last-ground : (k : Bool) → fits shifts e s count ≡ k → cond k 0 14 ≡ first (groundsBy len held offset shifts e s count more rule)
+    (len held offset shifts : ℕ) (e : Shift) (s : State) (count more most rule : ℕ) (a : held ≤ len) (b : 8 ≤ held) (c : offset ≡ 8)
+    (d : held ≡ 8 + 16 * shifts) (f : count + more ≤ most) (g : shifts ≤ count) (h : rule ≡ 0) where
+  pub last-ground : (k : Bool) → fits shifts e s count ≡ k → cond k 0 14 ≡ first (groundsBy len held offset shifts e s count more most rule)
   last-ground k q =
       rw (
         le-leb held len a,
         le-leb 8 held b,
         eq-eqb offset 8 c,
         eq-eqb held (8 + 16 * shifts) d,
-        le-leb (count + more) 16372 f,
+        le-leb (count + more) most f,
         le-leb shifts count g,
         eq-eqb rule 0 h,
         q,
@@ -35,7 +35,7 @@ module _
   -- by the test of the fit that was made
   pub by-fit :
       (shifts′ : ℕ) (e′ : Shift) (r : Bool) → shifts′ ≡ shifts → e′ ≡ e → r ≡ fits shifts′ e′ s count → (k : Bool) → r ≡ k
-      → cond k 0 14 ≡ first (groundsBy len held offset shifts e s count more rule)
+      → cond k 0 14 ≡ first (groundsBy len held offset shifts e s count more most rule)
   by-fit shifts′ e′ r es ee er k q =
       last-ground k (sym (er ∙ ap (λ m. fits m e′ s count) es ∙ ap (λ (x : Shift). fits shifts x s count) ee) ∙ q)
 
@@ -48,10 +48,10 @@ pub record Grounded (len held shifts : ℕ) (e : Shift) (s : State) (count more 
   pub fit : T (fits shifts e s count)
 
 pub grounded :
-    (len held offset shifts : ℕ) (e : Shift) (s : State) (count more rule : ℕ)
-    → first (groundsBy len held offset shifts e s count more rule) ≡ 0 → Grounded len held shifts e s count more
-grounded len held offset shifts e s count more rule z =
-    let h = first→holds 0 (groundsBy len held offset shifts e s count more rule) tt z .0 in
+    (len held offset shifts : ℕ) (e : Shift) (s : State) (count more most rule : ℕ) → most ≤ 16372
+    → first (groundsBy len held offset shifts e s count more most rule) ≡ 0 → Grounded len held shifts e s count more
+grounded len held offset shifts e s count more most rule m z =
+    let h = first→holds 0 (groundsBy len held offset shifts e s count more most rule) tt z .0 in
     record {
       inside = omega (arith, tests);
       long = omega (arith, tests);

@@ -2,7 +2,7 @@
 -- Assumes nothing.
 use mathlib.Core.Path.{_≡_, refl, sym, ap, subst, _∙_}
 use mathlib.Core.Bool.{Bool, true, false, not, _&&_, _||_}
-use mathlib.Core.Logic.{_⊎_, inl, inr, ⊎-elim}
+use mathlib.Core.Logic.{inl, inr, ⊎-elim}
 use mathlib.Core.List.{List, [], _∷_}
 use Prim.Native.Nat.{ℕ, suc, _+_, _*_, _-_, _/_, _≤_, _<_}
 use native.Mathlib.Omega.{arith}
@@ -12,7 +12,7 @@ use lib.Seq.{sets, getD-set-other}
 use Rattle.checks.specs.Checks.{first}
 use Rattle.checks.specs.Conditions.{Condition, FirstOf}
 use Rattle.checks.proofs.ConditionLaws.{first-of}
-use Rattle.checks.proofs.Tests.{tests, case, passes, left, right, both, either, eq→eqb, ne→neqb, neqb→ne}
+use Rattle.checks.proofs.Tests.{tests, case, passes, left, right, both, either, one-of, eq→eqb, ne→neqb, neqb→ne}
 use Rattle.limits.specs.declared.Table.{Table}
 use Rattle.limits.specs.Rules.{brokenRule}
 use Rattle.limits.proofs.Refusals.{admitted, not-admitted}
@@ -30,9 +30,11 @@ use Rattle.shift.specs.declared.Reading.{Reading}
 use Rattle.shift.specs.Answers.{reading, guard, excess}
 use Rattle.shift.specs.Runs.{Outcome, run}
 use Rattle.shift.proofs.Refusals.{reads}
+use Rattle.stepfile.specs.declared.write.Wish.the-variants.{Given}
 use Rattle.stepfile.specs.Records.{recordsIn}
 use Rattle.stepfile.specs.Refusals.{bits16}
 use Rattle.stepfile.proofs.RecordLaws.{record-in}
+use Rattle.stepfile.proofs.WriteRefusals.{too-many, not-too-many}
 use Rattle.shiftlist.specs.declared.Shift.{Shift}
 use Rattle.shiftlist.specs.Lists.{shiftAt}
 use Rattle.shiftlist.proofs.Refusals.{same-32}
@@ -49,10 +51,6 @@ outside s u m =
     subst T u (both (leb 1 p) (leb p 21) (le→leb 1 p (m .0)) (le→leb p 21 (m .1)))
 
 -- ---- state and list fit
-one-of-two : (a b : Bool) → T a ⊎ T b → T (a || b)
-one-of-two true b t = tt
-one-of-two false b t = ⊎-elim (λ z. absurd z) (λ z. z) t
-
 module _ (l : List ℕ) (held : ℕ) (s : State) (count : ℕ) where
   abbrev place : ℕ
   place = held - 16
@@ -133,7 +131,7 @@ module _ (l : List ℕ) (held : ℕ) (s : State) (count : ℕ) where
       rw u (both (leb 1 shifts) (isOpen e s count) (le→leb 1 shifts (omega arith)) (entry-passes (x .1))))
       (λ u.
       rw u
-      (one-of-two (eqb shifts 0) (isOver e count)
+      (one-of (eqb shifts 0) (isOver e count)
       (⊎-elim (λ z. inl (eq→eqb shifts 0 (same ∙ z))) (λ o. inr (over-passes o)) (f .outside (outside s u)))))
 
   -- ---- the grounds
@@ -148,7 +146,10 @@ module _ (l : List ℕ) (held : ℕ) (s : State) (count : ℕ) where
             (
               omega (arith, tests),
               (
-                omega (arith, tests),
+                (
+                  λ x. too-many (Given t) (count + length bytes / 4) (omega (arith, tests)),
+                  (λ x. not-too-many (Given t) (count + length bytes / 4) (omega (arith, tests)), refl),
+                ),
                 (
                   omega (arith, tests),
                   (

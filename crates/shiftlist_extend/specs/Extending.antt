@@ -1,5 +1,5 @@
--- Document 02, request 5: records were appended to a file whose list is at hand. What extending the list answers, for any list, state,
--- count of records, table and new records.
+-- Document 02, request 5, with request 6's record maximum: records were appended to a file whose list is at hand. What extending the
+-- list answers, for any list, state, count of records, table and new records.
 -- Assumes nothing.
 use mathlib.Core.Bool.{Bool, cond, not, _&&_, _||_}
 use mathlib.Core.List.{List, [], _∷_}
@@ -15,7 +15,9 @@ use Rattle.phases.specs.Phases.{unfinished}
 use Rattle.shift.specs.declared.State.{State}
 use Rattle.shift.specs.declared.Reading.{Reading}
 use Rattle.shift.specs.Runs.{Outcome, run}
+use Rattle.stepfile.specs.declared.write.Wish.the-variants.{Given}
 use Rattle.stepfile.specs.Records.{recordsIn}
+use Rattle.stepfile.specs.Writing.{mostFor}
 use Rattle.shiftlist.specs.declared.Shift.{Shift}
 use Rattle.shiftlist.specs.declared.Listed.{Listed}
 use Rattle.shiftlist.specs.Shifts.{whole, shiftsFrom}
@@ -43,15 +45,15 @@ laidOn going e count s rs = cond going (whole e count s rs ∷ shiftsFrom count 
 
 -- ---- before the records are judged
 -- Of a buffer of so many bytes, of which so many are held, the list's offset and its count of shifts: 15 for held, 1 under 8 bytes, 2
--- for the offset, 3 for the length. Of the longer file, with so many records more: 2 for its records, and where the list has more
--- shifts than records; 4. Then 14 where state and list do not fit.
-abbrev pub groundsBy : ℕ → ℕ → ℕ → ℕ → Shift → State → ℕ → ℕ → ℕ → List Check
-groundsBy len held offset shifts e s count more rule =
+-- for the offset, 3 for the length. Of the longer file, with so many records more: 2 for more records than its maximum, and where the
+-- list has more shifts than records; 4. Then 14 where state and list do not fit.
+abbrev pub groundsBy : ℕ → ℕ → ℕ → ℕ → Shift → State → ℕ → ℕ → ℕ → ℕ → List Check
+groundsBy len held offset shifts e s count more most rule =
     (leb held len ! 15)
     ∷ (leb 8 held ! 1)
     ∷ (eqb offset 8 ! 2)
     ∷ (eqb held (8 + 16 * shifts) ! 3)
-    ∷ (leb (count + more) 16372 ! 2)
+    ∷ (leb (count + more) most ! 2)
     ∷ (leb shifts count ! 2)
     ∷ (eqb rule 0 ! 4)
     ∷ (fits shifts e s count ! 14)
@@ -62,8 +64,9 @@ module _ (l : List ℕ) (held : ℕ) (s : State) (count : ℕ) (t : Table) (byte
   abbrev pub lastEntry : Shift
   lastEntry = shiftAt l (held - 16)
 
+  -- the maximum is by how the table would be written
   abbrev pub grounds : List Check
-  grounds = groundsBy (length l) held (u32At l 4) (u32At l 0) lastEntry s count (length bytes / 4) (brokenRule t)
+  grounds = groundsBy (length l) held (u32At l 4) (u32At l 0) lastEntry s count (length bytes / 4) (mostFor (Given t)) (brokenRule t)
 
   abbrev pub laid : List Shift
   laid = laidOn (unfinished (s .phase)) lastEntry count s (recordsIn bytes)

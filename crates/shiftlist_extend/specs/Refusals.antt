@@ -1,5 +1,5 @@
--- Document 02, request 5, a second time: when extending a list by appended records is refused, as statements, and what a call leaves. It
--- shares no definition with Extending.antt, nor with Shifts.antt and Lists.antt of `shiftlist`.
+-- Document 02, request 5, with request 6's record maximum, a second time: when extending a list by appended records is refused, as
+-- statements, and what a call leaves. It shares no definition with Extending.antt, nor with Shifts.antt and Lists.antt of `shiftlist`.
 -- Assumes nothing.
 use mathlib.Core.Path.{_≡_}
 use mathlib.Core.Logic.{_⊎_}
@@ -17,7 +17,8 @@ use Rattle.shift.specs.declared.Reading.{Reading}
 use Rattle.shift.specs.declared.Reading.the-variants.{WrongCode}
 use Rattle.shift.specs.Refusals.{Reads}
 use Rattle.shift.specs.Runs.{Outcome}
-use Rattle.stepfile.specs.Refusals.{bits16, bits32, RuleFor}
+use Rattle.stepfile.specs.declared.write.Wish.the-variants.{Given}
+use Rattle.stepfile.specs.Refusals.{bits16, bits32, RuleFor, TooMany, WrittenWith}
 use Rattle.shiftlist.specs.declared.Shift.{Shift}
 use Rattle.shiftlist.specs.declared.Listed.{Listed}
 use Rattle.shiftlist.specs.Entries.{Entries}
@@ -54,7 +55,7 @@ extendRefusals l held s count t bytes =
     ∷ (held < 8 gives 1)
     ∷ ((bits32 l 4 ≡ 8) else 2)
     ∷ ((held ≡ 8 + 16 * bits32 l 0) else 3)
-    ∷ (16372 < count + length bytes / 4 gives 2)
+    ∷ (((k : ℕ) × WrittenWith (Given t) k × TooMany k (count + length bytes / 4)) gives 2)
     ∷ (count < bits32 l 0 gives 2)
     ∷ (Admitted t else 4)
     ∷ (Fit l held s count else 14)

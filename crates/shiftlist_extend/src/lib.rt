@@ -20,6 +20,7 @@ use shiftlist::lay::lay;
 use shiftlist::shift_at;
 use shiftlist::walk::Walk;
 use shiftlist::walk::age_of;
+use stepfile::write::most_for;
 
 // Extends the list that the first `held` bytes hold, which is that of a file of `count` records that end in this state, by the records
 // that follow them; or changes no byte: 15 where more is held than there is, 1, 2 and 3 of the list, 2 for too many records or more
@@ -37,7 +38,8 @@ pub fn extend(
     ensures { λ _. ⌜ now (list .exit) ≡ listAfter (now (list .entry)) held state count table (now (records .entry)) ⌝ }
 {
     let rule = table.broken_rule();
-    let number = ground(list, held, state, count, records.len() / 4, rule);
+    let most = most_for(table);
+    let number = ground(list, held, state, count, records.len() / 4, most, rule);
     if number != 0 {
         return Listed::refused(number, if_four(number, rule), 0, 0);
     }
@@ -66,9 +68,17 @@ fn go_on(list: &mut [u8], held: usize, state: State, count: u32, records: &[u8])
 }
 
 // What refuses list, file and state before the records are judged.
-fn ground(list: &[u8], held: usize, state: State, count: u32, more: usize, rule: u8) -> u8
+fn ground(
+    list: &[u8],
+    held: usize,
+    state: State,
+    count: u32,
+    more: usize,
+    most: usize,
+    rule: u8,
+) -> u8
     requires { ⌜ more ≤ 9223372036854775807 ⌝ }
-    ensures { λ r. ⌜ r ≡ first (groundsBy (length (now (list .entry))) held (u32At (now (list .entry)) 4) (u32At (now (list .entry)) 0) (shiftAt (now (list .entry)) (held - 16)) state count more rule) ⌝ }
+    ensures { λ r. ⌜ r ≡ first (groundsBy (length (now (list .entry))) held (u32At (now (list .entry)) 4) (u32At (now (list .entry)) 0) (shiftAt (now (list .entry)) (held - 16)) state count more most rule) ⌝ }
 {
     if list.len() < held {
         return 15;
@@ -83,7 +93,7 @@ fn ground(list: &[u8], held: usize, state: State, count: u32, more: usize, rule:
     if held != 8 + 16 * (shifts as usize) {
         return 3;
     }
-    if 16372 < count as usize + more {
+    if most < count as usize + more {
         return 2;
     }
     if count < shifts {

@@ -12,16 +12,18 @@ use Rattle.checks.proofs.Checks.{Holds, absent, first→holds, first-left, firs
 use Rattle.limits.specs.Rules.{brokenRule}
 use Rattle.stepfile.specs.Files.{headed, tableIn, checks, refusing, refusalOf}
 
--- neither of two tests passed, or one did
-pub neither : (a b : Bool) → (not a && not b) ≡ true → T (not (a || b))
-neither true b e = absurd (false≢true e)
-neither false true e = absurd (false≢true e)
-neither false false e = tt
+-- none of three tests passed, or one did
+pub none : (a b c : Bool) → (not a && (not b && not c)) ≡ true → T (not (a || (b || c)))
+none true b c e = absurd (false≢true e)
+none false true c e = absurd (false≢true e)
+none false false true e = absurd (false≢true e)
+none false false false e = tt
 
-pub one : (a b : Bool) → (not a && not b) ≡ false → T (a || b)
-one true b e = tt
-one false true e = tt
-one false false e = absurd (true≢false e)
+pub one : (a b c : Bool) → (not a && (not b && not c)) ≡ false → T (a || (b || c))
+one true b c e = tt
+one false true c e = tt
+one false false true e = tt
+one false false false e = absurd (true≢false e)
 
 -- a last check with the number 4, after a list that holds or is refused
 module _ (cs : List Check) (r : ℕ) where

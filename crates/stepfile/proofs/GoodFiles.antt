@@ -12,7 +12,7 @@ use Rattle.shift.proofs.Refusals.{reads}
 use Rattle.stepfile.specs.Files.{tableIn, refusalOf, recordBytes, readingsOf}
 use Rattle.stepfile.specs.Refusals.{bits16, place, FileHolds}
 use Rattle.stepfile.proofs.RecordLaws.{recordAt, record-in}
-use Rattle.stepfile.proofs.TableLaws.{with-entries, without-entries, records-from}
+use Rattle.stepfile.proofs.TableLaws.{with-twenty-two, with-eighteen, without-entries, records-from}
 use Rattle.stepfile.proofs.WholeLaws.{good-file}
 use Rattle.stepfile.proofs.RoundTrip.{as-many-records}
 
@@ -45,7 +45,8 @@ module _ (f : List ℕ) (z : refusalOf f .number ≡ 0) where
   good-files-hold =
       record {
         without-entries = without-entries f;
-        with-entries = λ e. let whole = good-file f z .whole in with-entries f (omega arith) e;
+        with-eighteen = λ e. let whole = good-file f z .whole in with-eighteen f (omega arith) e;
+        with-twenty-two = λ e. let whole = good-file f z .whole in with-twenty-two f (omega arith) e;
         count = as-many-records f z ∙ omega arith;
         each = λ i h.
             rw (read-there i h) (reads (getD f (place f i + 1) 0) (bits16 f (place f i + 2)) (getD f (place f i) 0));

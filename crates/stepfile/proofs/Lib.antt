@@ -1,4 +1,5 @@
 pub mod ByteLaws
+pub mod EntryLaws
 pub mod FileLaws
 pub mod RecordLaws
 pub mod WritingLaws

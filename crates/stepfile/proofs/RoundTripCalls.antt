@@ -1,9 +1,9 @@
 -- The round trip of files through a call of `write`: what it leaves in the lent buffer reads back, and a good file that was taken apart
--- stands there again.
+-- stands there again, in eighteen entries where it had twenty-two with four zeros.
 -- Assumes nothing.
 use mathlib.Core.Path.{_≡_, sym, ap, subst, _∙_}
 use mathlib.Core.List.{List}
-use Prim.Native.Nat.{ℕ, _≤_}
+use Prim.Native.Nat.{ℕ, _+_, _-_, _≤_}
 use native.Mathlib.Omega.{arith}
 use lib.Dec.{leb, eqb, eqb→eq}
 use lib.ListN.{length, take, drop}
@@ -23,11 +23,11 @@ use Rattle.stepfile.specs.declared.write.Wish.{Wish}
 use Rattle.stepfile.specs.declared.write.Written.{Written}
 use Rattle.stepfile.specs.declared.write.Wrong.{Wrong}
 use Rattle.stepfile.specs.Files.{tableIn, refusalOf, readingsOf}
-use Rattle.stepfile.specs.Writing.{wished, fileOf, sizeOf, firstWrong, writable, fitting, afterRecords, afterLists, writtenOf, bufferAfter}
-use Rattle.stepfile.specs.RoundTrip.{Bytes, readingsBy, AllRead, wishIn, codesIn, amountsIn}
+use Rattle.stepfile.specs.Writing.{wished, entriesOf, fileOf, sizeOf, firstWrong, writable, fitting, afterRecords, afterLists, writtenOf, bufferAfter}
+use Rattle.stepfile.specs.RoundTrip.{Bytes, readingsBy, AllRead, FourZeros, wishIn, codesIn, amountsIn}
 use Rattle.stepfile.proofs.WritingLaws.{size}
 use Rattle.stepfile.proofs.WriteLaws.{written}
-use Rattle.stepfile.proofs.RoundTrip.{written-is-good, written-reads-back-the-table, written-reads-back-the-steps, written-steps-all-read, read-is-written-back, read-is-writable}
+use Rattle.stepfile.proofs.RoundTrip.{written-is-good, written-reads-back-the-table, written-reads-back-the-steps, written-steps-all-read, read-is-written-back, read-is-writable, InEighteen, four-zeros-are-written-in-eighteen}
 use Rattle.stepfile.proofs.write.write as write-call
 use Rattle.stepfile.proofs.write.write.Reads as write-reads
 
@@ -59,6 +59,13 @@ pub record StandsAgain (f : List ℕ) (r : Written) (before after : List ℕ) : 
   pub file : take (length f) after ≡ f
   pub rest : drop (length f) after ≡ drop (length f) before
 
+-- the writer answers 0 and a length 8 below the file's, that many first bytes of the buffer are the file in eighteen entries, and all
+-- other bytes are as before
+pub record StandsInEighteen (f : List ℕ) (r : Written) (before after : List ℕ) : Type 0 where
+  pub answer : r ≡ record { number = 0; rule = 0; index = 0; length = length f - 8 }
+  pub file : InEighteen f (take (length f - 8) after)
+  pub rest : drop (length f - 8) after ≡ drop (length f - 8) before
+
 -- ---- an answer of 0 tells that every check holds
 every-check :
     (k rule : ℕ) (x : Wrong) (n room : ℕ) → afterLists k rule (afterRecords x (fitting n room)) .number ≡ 0
@@ -82,7 +89,7 @@ module _
   file = fileOf w codes amounts
 
   long : first (writable w codes amounts) ≡ 0 → length file ≡ sizeOf w codes
-  long e = size w codes amounts (eqb→eq (length codes) (length amounts) (first→holds 0 (writable w codes amounts) tt e .0 .0))
+  long e = size (entriesOf w) codes amounts (eqb→eq (length codes) (length amounts) (first→holds 0 (writable w codes amounts) tt e .0 .0))
 
   stands :
       first (writable w codes amounts) ≡ 0 → firstWrong 0 codes amounts .number ≡ 0 → sizeOf w codes ≤ length before
@@ -117,17 +124,34 @@ module _
         rest = s .rest;
       }
 
-  pub gives-the-file-back :
-      (f : List ℕ) → TakenApart f codes amounts → w ≡ wishIn f → length f ≤ length before → StandsAgain f r before after
-  gives-the-file-back f t v room =
-      let same : file ≡ f =
-      rw (v, t .codes-in, t .amounts-in) (read-is-written-back f (t .bytes) (t .good) (t .all-read))
-      in
-      let h : (first (writable w codes amounts) ≡ 0) × (firstWrong 0 codes amounts .number ≡ 0) =
-      rw (v, t .codes-in, t .amounts-in) (read-is-writable f (t .bytes) (t .good) (t .all-read))
-      in
-      let fits = subst (λ n. n ≤ length before) (ap length (sym same) ∙ long (h .0)) room in
-      subst (λ g. StandsAgain g r before after) same (stands (h .0) (h .1) fits)
+  -- a good file that was taken apart
+  module _ (f : List ℕ) (t : TakenApart f codes amounts) (v : w ≡ wishIn f) where
+    stands-for : length file ≤ length before → StandsAgain file r before after
+    stands-for room =
+        let h : (first (writable w codes amounts) ≡ 0) × (firstWrong 0 codes amounts .number ≡ 0) =
+        rw (v, t .codes-in, t .amounts-in) (read-is-writable f (t .bytes) (t .good) (t .all-read))
+        in
+        stands (h .0) (h .1) (subst (λ n. n ≤ length before) (long (h .0)) room)
+
+    pub gives-the-file-back : ¬ FourZeros f → length f ≤ length before → StandsAgain f r before after
+    gives-the-file-back z room =
+        let same : file ≡ f =
+        rw (v, t .codes-in, t .amounts-in) (read-is-written-back f (t .bytes) (t .good) (t .all-read) z)
+        in
+        subst (λ g. StandsAgain g r before after) same (stands-for (subst (λ g. length g ≤ length before) (sym same) room))
+
+    pub gives-the-file-in-eighteen : FourZeros f → length f ≤ length before + 8 → StandsInEighteen f r before after
+    gives-the-file-in-eighteen z room =
+        let other : InEighteen f file =
+        rw (v, t .codes-in, t .amounts-in) (four-zeros-are-written-in-eighteen f (t .bytes) (t .good) (t .all-read) z)
+        in
+        let eight : length file ≡ length f - 8 = omega (arith, other .shorter) in
+        let s = stands-for (omega (arith, other .shorter)) in
+        record {
+          answer = s .answer ∙ ap (λ n. record { number = 0; rule = 0; index = 0; length = n }) eight;
+          file = subst (InEighteen f) (sym (ap (λ n. take n after) (sym eight) ∙ s .file)) other;
+          rest = ap (λ n. drop n after) (sym eight) ∙ s .rest ∙ ap (λ n. drop n before) eight;
+        }
 
 -- ---- of a call of `write`, whatever its contract allows
 module _
@@ -153,5 +177,11 @@ module _
   write-reads-back = reads-back wish codes amounts before after r (call .0) (call .1)
 
   pub write-gives-the-file-back :
-      (f : List ℕ) → TakenApart f codes amounts → wish ≡ wishIn f → length f ≤ length before → StandsAgain f r before after
+      (f : List ℕ) → TakenApart f codes amounts → wish ≡ wishIn f → ¬ FourZeros f → length f ≤ length before
+      → StandsAgain f r before after
   write-gives-the-file-back = gives-the-file-back wish codes amounts before after r (call .0) (call .1)
+
+  pub write-gives-the-file-in-eighteen :
+      (f : List ℕ) → TakenApart f codes amounts → wish ≡ wishIn f → FourZeros f → length f ≤ length before + 8
+      → StandsInEighteen f r before after
+  write-gives-the-file-in-eighteen = gives-the-file-in-eighteen wish codes amounts before after r (call .0) (call .1)

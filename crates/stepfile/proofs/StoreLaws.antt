@@ -6,28 +6,33 @@ use Prim.Native.Nat.{ℕ, zero, suc, _+_, _*_, _≤_, _<_}
 use native.Mathlib.Nat.{zero-add}
 use native.Mathlib.Numerals.{add-one, towards-suc}
 use native.Mathlib.Omega.{arith}
-use lib.ListN.{length, getD, drop, drop-of-length-le}
-use lib.Seq.{sets, drop-cons}
+use lib.ListN.{length, getD, take, drop, drop-of-length-le}
+use lib.Seq.{sets, drop-cons, getD-take, length-take-le}
 use Rattle.numbers.specs.Bytes.{bytesOf}
-use Rattle.numbers.proofs.StoreLaws.{bytesOf-append, sets-append}
+use Rattle.numbers.proofs.StoreLaws.{bytesOf-append, length-bytesOf, sets-append}
+use Rattle.limits.specs.declared.Table.{Table}
+use Rattle.limits.specs.Limits.{entries}
 use Rattle.shift.specs.Answers.{reading, refusal}
-use Rattle.stepfile.specs.declared.write.Wish.{Wish}
-use Rattle.stepfile.specs.declared.write.Wish.the-variants.{Given, NoTable}
 use Rattle.stepfile.specs.declared.write.Wrong.{Wrong}
-use Rattle.stepfile.specs.Writing.{entriesOf, recordsOf, wrongOr, firstWrong}
+use Rattle.stepfile.specs.declared.write.Wish.{Wish}
+use Rattle.stepfile.specs.Writing.{wished, entriesOf, headerOf, recordsOf, fileOf, wrongOr, firstWrong}
+use Rattle.stepfile.proofs.EntryLaws.{entries-taken}
 
--- ---- the entries of a table
-module _ (l es : List ℕ) (i : ℕ) where
+-- ---- the first n entries of a table
+module _ (l es : List ℕ) (n i : ℕ) where
+  abbrev first : List ℕ
+  first = take n es
+
   pub entry-stored :
-      i < length es
-      → sets l (12 + 2 * i) (bytesOf (drop i es))
-      ≡ sets (sets l (12 + 2 * i) (bytesOf (getD es i 0 ∷ []))) (12 + 2 * (i + 1)) (bytesOf (drop (i + 1) es))
-  entry-stored h =
+      i < n → n ≤ length es
+      → sets l (12 + 2 * i) (bytesOf (drop i first))
+      ≡ sets (sets l (12 + 2 * i) (bytesOf (getD es i 0 ∷ []))) (12 + 2 * (i + 1)) (bytesOf (drop (i + 1) first))
+  entry-stored h k =
       let next : 12 + 2 * (i + 1) ≡ suc (suc (12 + 2 * i)) = omega arith in
-      rw (next, add-one i, drop-cons es i 0 h)
+      rw (next, add-one i, drop-cons first i 0 (omega (arith, length-take-le n es k)), getD-take n es i 0 h)
 
-  pub entries-stored : length es ≤ i → sets l (12 + 2 * i) (bytesOf (drop i es)) ≡ l
-  entries-stored h = rw (drop-of-length-le es h)
+  pub entries-stored : n ≤ i → n ≤ length es → sets l (12 + 2 * i) (bytesOf (drop i first)) ≡ l
+  entries-stored h k = rw (drop-of-length-le first {i = i} (omega (arith, length-take-le n es k)))
 
 -- ---- the records of two lists
 module _ (l cs ns : List ℕ) (p i : ℕ) where
@@ -64,11 +69,11 @@ module _ (cs ns : List ℕ) (i : ℕ) where
   none-paired h k = rw (drop-cons cs i 0 h, drop-of-length-le ns k)
 
 -- ---- header, entries and records in one
-pub file-stored :
+parts-stored :
     (l h e r : List ℕ)
     → sets (sets (sets l 0 (bytesOf h)) (length (bytesOf h)) (bytesOf e)) (length (bytesOf h) + length (bytesOf e)) (bytesOf r)
     ≡ sets l 0 (bytesOf (h ++ (e ++ r)))
-file-stored l h e r =
+parts-stored l h e r =
     let whole : bytesOf (h ++ (e ++ r)) ≡ bytesOf h ++ (bytesOf e ++ bytesOf r) =
     bytesOf-append h (e ++ r) ∙ ap (λ bs. bytesOf h ++ bs) (bytesOf-append e r)
     in
@@ -78,7 +83,15 @@ file-stored l h e r =
     ∙ ap (λ n. sets m n (bytesOf e ++ bytesOf r)) (zero-add (length (bytesOf h)))
     ∙ sets-append m (length (bytesOf h)) (bytesOf e) (bytesOf r))
 
--- ---- the file in a buffer
-pub few : (w : Wish) → length (entriesOf w) ≤ 18
-few (Given t) = omega arith
-few NoTable = omega arith
+-- of a wish that is written with k entries
+pub file-stored :
+    (l : List ℕ) (w : Wish) (cs ns : List ℕ) (k : ℕ) (t : Table) → k ≡ length (entriesOf w) → t ≡ wished w
+    → sets (sets (sets l 0 (bytesOf (headerOf k (length cs)))) 12 (bytesOf (take k (entries t)))) (12 + 2 * k) (bytesOf (recordsOf cs ns))
+    ≡ sets l 0 (fileOf w cs ns)
+file-stored l w cs ns k t e f =
+    let es = entriesOf w in
+    let h = headerOf (length es) (length cs) in
+    let place : 12 + 2 * length es ≡ 12 + length (bytesOf es) = omega (arith, length-bytesOf es) in
+    rw (e, f, entries-taken w)
+    (ap (λ p. sets (sets (sets l 0 (bytesOf h)) 12 (bytesOf es)) p (bytesOf (recordsOf cs ns))) place
+    ∙ parts-stored l h es (recordsOf cs ns))

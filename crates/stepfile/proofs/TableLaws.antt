@@ -1,11 +1,10 @@
 -- Laws on the header and the table of a file that was written, and on what makes a file a good one.
 -- Assumes nothing.
 use mathlib.Core.Path.{_≡_, refl, sym, ap, _∙_}
-use mathlib.Core.Bool.{cond, _||_, and-false}
+use mathlib.Core.Bool.{cond}
 use mathlib.Core.List.{List, [], _∷_, _++_}
 use Prim.Native.Nat.{ℕ, zero, suc, _+_, _*_, _/_, _%_, _≤_}
 use native.Mathlib.Omega.{arith}
-use lib.Dec.{T, eqb}
 use lib.ListN.{length, drop}
 use lib.Seq.{drop-at, getD-drop}
 use borrow.Author.Tests.{eq-eqb, ne-eqb, le-leb}
@@ -14,8 +13,9 @@ use Rattle.checks.proofs.Tests.{tests}
 use Rattle.limits.specs.Limits.{tableOf, default}
 use Rattle.limits.specs.Rules.{brokenRule}
 use Rattle.numbers.specs.Bytes.{u16sAt, bytesOf}
-use Rattle.stepfile.specs.Files.{tableEntries, recordOffset, recordCount, headedBy, headed, tableIn, refusalOf, fromOffset, recordBytes}
+use Rattle.stepfile.specs.Files.{tableEntries, recordOffset, recordCount, mostRecords, headedBy, headed, tableIn, refusalOf, fromOffset, recordBytes}
 use Rattle.stepfile.specs.Writing.{headerOf}
+use Rattle.stepfile.proofs.EntryLaws.{Few, fitting}
 use Rattle.stepfile.proofs.FileLaws.{not-refused}
 use Rattle.numbers.proofs.StoreLaws.{bytesOf-append, length-bytesOf}
 
@@ -48,20 +48,24 @@ module _ (k n : ℕ) (rest : List ℕ) where
   count-back = omega arith
 
 -- ---- the table of a file with entries, and of one without
-pub with-entries : (f : List ℕ) → 48 ≤ length f → tableEntries f ≡ 18 → tableIn f ≡ tableOf (u16sAt f 12 18)
+pub with-twenty-two : (f : List ℕ) → 56 ≤ length f → tableEntries f ≡ 22 → tableIn f ≡ tableOf (u16sAt f 12 22)
 unfolding tableIn
-with-entries f l e = rw (le-leb 48 (length f) l, eq-eqb (tableEntries f) 18 e)
+with-twenty-two f l e = rw (eq-eqb (tableEntries f) 22 e, le-leb 56 (length f) l)
+
+pub with-eighteen : (f : List ℕ) → 48 ≤ length f → tableEntries f ≡ 18 → tableIn f ≡ tableOf (u16sAt f 12 18)
+unfolding tableIn
+with-eighteen f l e = rw (ne-eqb (tableEntries f) 22 (omega arith), eq-eqb (tableEntries f) 18 e, le-leb 48 (length f) l)
 
 pub without-entries : (f : List ℕ) → tableEntries f ≡ 0 → tableIn f ≡ default
 unfolding tableIn
-without-entries f e = rw (ne-eqb (tableEntries f) 18 (omega arith), and-false)
+without-entries f e = rw (ne-eqb (tableEntries f) 22 (omega arith), ne-eqb (tableEntries f) 18 (omega arith))
 
 -- ---- a file is good whose header fields and table are
 pub headed-well :
-    (len offset k from n : ℕ) → offset ≡ 12 → T (eqb k 0 || eqb k 18) → from ≡ 12 + 2 * k → n ≤ 16372 → len ≡ 12 + 2 * k + 4 * n
+    (len offset k from n : ℕ) → offset ≡ 12 → Few k → from ≡ 12 + 2 * k → n ≤ mostRecords k → len ≡ 12 + 2 * k + 4 * n
     → Holds (headedBy len offset k from n)
-headed-well len offset k from n o t r m l =
-    (omega (arith, tests), (omega (arith, tests), (t, (omega (arith, tests)))))
+headed-well len offset k from n o e r m l =
+    (omega (arith, tests), (omega (arith, tests), (fitting k e, (omega (arith, tests)))))
 
 pub well : (f : List ℕ) → Holds (headed f) → brokenRule (tableIn f) ≡ 0 → refusalOf f .number ≡ 0
 well f h b = let z = holds→first (headed f) h in sym (ap (λ r. r .number) (not-refused f refl z refl b))

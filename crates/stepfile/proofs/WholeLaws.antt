@@ -1,33 +1,35 @@
 -- Laws on a good file as a whole: what its checks tell, and its bytes as header, entries and records.
 -- Assumes nothing.
 use mathlib.Core.Path.{_≡_, refl, sym, ap, _∙_}
-use mathlib.Core.Logic.{_⊎_, inl, inr, ⊎-elim}
+use mathlib.Core.Logic.{inl, inr}
 use mathlib.Core.Bool.{cond}
 use mathlib.Core.List.{List, [], _∷_, _++_}
 use Prim.Native.Nat.{ℕ, zero, suc, _+_, _*_, _/_, _%_, _≤_, _<_}
 use native.Mathlib.Omega.{arith}
-use lib.Dec.{eqb, eqb→eq}
+use lib.Dec.{eqb}
 use lib.ListN.{length, getD, drop}
 use lib.Seq.{drop-cons}
 use borrow.Author.Tests.{eq-eqb, ne-eqb}
 use Rattle.checks.specs.Checks.{_!_, first}
 use Rattle.checks.proofs.Checks.{first→holds}
-use Rattle.checks.proofs.Tests.{tests, either}
-use Rattle.limits.specs.Limits.{entries}
+use Rattle.checks.proofs.Tests.{tests, case}
+use Rattle.limits.specs.Limits.{limits, entries}
 use Rattle.limits.specs.Rules.{brokenRule}
 use Rattle.stepfile.specs.declared.write.Wish.the-variants.{Given, NoTable}
 use Rattle.numbers.specs.Bytes.{u16At, u16sAt, bytesOf}
-use Rattle.stepfile.specs.Files.{tableOffset, tableEntries, recordOffset, recordCount, headedBy, tableIn, refusalOf}
-use Rattle.stepfile.specs.Writing.{wished, entriesOf, headerOf}
-use Rattle.stepfile.specs.RoundTrip.{Bytes, wishIn}
+use Rattle.stepfile.specs.Files.{tableOffset, tableEntries, recordOffset, recordCount, mostRecords, headedBy, tableIn, refusalOf}
+use Rattle.stepfile.specs.Writing.{wished, entriesFor, entriesOf, mostFor, headerOf}
+use Rattle.stepfile.specs.RoundTrip.{Bytes, FourZeros, wishIn}
 use Rattle.numbers.proofs.StoreLaws.{bytesOf-append}
-use Rattle.stepfile.proofs.TableLaws.{with-entries, without-entries}
+use Rattle.stepfile.proofs.EntryLaws.{Few, few, most-between, in-eighteen, in-twenty-two}
+use Rattle.stepfile.proofs.TableLaws.{with-twenty-two, with-eighteen, without-entries}
 
 -- ---- what the checks of a good file tell
 pub record Good (len offset k from n r : ℕ) : Type 0 where
   pub begins : offset ≡ 12
-  pub few : (k ≡ 0) ⊎ (k ≡ 18)
+  pub few : Few k
   pub follow : from ≡ 12 + 2 * k
+  pub within : n ≤ mostRecords k
   pub most : n ≤ 16372
   pub whole : len ≡ 12 + 2 * k + 4 * n
   pub admitted : r ≡ 0
@@ -37,9 +39,10 @@ told len offset k from n r e =
     let h = first→holds 0 (headedBy len offset k from n ++ ((eqb r 0 ! 4) ∷ [])) tt e .0 in
     record {
       begins = omega (arith, tests);
-      few = ⊎-elim (λ t. inl (eqb→eq k 0 t)) (λ t. inr (eqb→eq k 18 t)) (either (eqb k 0) (eqb k 18) (h .1 .1 .0));
+      few = few k (h .1 .1 .0);
       follow = omega (arith, tests);
-      most = omega (arith, tests);
+      within = omega (arith, tests);
+      most = omega (arith, tests, most-between k);
       whole = omega (arith, tests);
       admitted = omega (arith, tests);
     }
@@ -77,7 +80,7 @@ length-u16sAt l i zero = refl
 length-u16sAt l i (suc m) = ap suc (length-u16sAt l (i + 2) m)
 
 -- ---- the header's six numbers
-pub six : (a b c d e g k n : ℕ) → a ≡ 12 → b ≡ k → c + 65536 * d ≡ 12 + 2 * k → e + 65536 * g ≡ n → k ≤ 18 → n ≤ 16372
+pub six : (a b c d e g k n : ℕ) → a ≡ 12 → b ≡ k → c + 65536 * d ≡ 12 + 2 * k → e + 65536 * g ≡ n → k ≤ 22 → n ≤ 16372
     → headerOf k n ≡ a ∷ b ∷ c ∷ d ∷ e ∷ g ∷ []
 six a b c d e g k n p q r s t u =
     let third : 12 + 2 * k ≡ c = omega arith in
@@ -94,21 +97,61 @@ module _ (f : List ℕ) where
   no-wish : k ≡ 0 → wishIn f ≡ NoTable
   no-wish e = ap (λ b. cond b NoTable (Given (tableIn f))) (eq-eqb k 0 e)
 
-  a-wish : k ≡ 18 → wishIn f ≡ Given (tableIn f)
-  a-wish e = ap (λ b. cond b NoTable (Given (tableIn f))) (ne-eqb k 0 (omega arith))
+  a-wish : ¬ (k ≡ 0) → wishIn f ≡ Given (tableIn f)
+  a-wish n = ap (λ b. cond b NoTable (Given (tableIn f))) (ne-eqb k 0 n)
 
-  pub wished-in : (k ≡ 0) ⊎ (k ≡ 18) → wished (wishIn f) ≡ tableIn f
+  -- it is the file's table
+  pub wished-in : Few k → wished (wishIn f) ≡ tableIn f
   wished-in (inl e) = ap wished (no-wish e) ∙ sym (without-entries f e)
-  wished-in (inr e) = ap wished (a-wish e)
+  wished-in (inr (inl e)) = ap wished (a-wish (λ z. omega arith))
+  wished-in (inr (inr e)) = ap wished (a-wish (λ z. omega arith))
 
-  pub entries-in : (k ≡ 0) ⊎ (k ≡ 18) → 12 + 2 * k ≤ length f → entriesOf (wishIn f) ≡ u16sAt f 12 k
-  entries-in (inl e) h = ap entriesOf (no-wish e) ∙ ap (λ m. u16sAt f 12 m) (sym e)
-  entries-in (inr e) h =
-      ap entriesOf (a-wish e) ∙ ap entries (with-entries f (omega arith) e) ∙ ap (λ m. u16sAt f 12 m) (sym e)
+  module _ (h : 12 + 2 * k ≤ length f) where
+    eighteen-in : k ≡ 18 → entriesFor (tableIn f) ≡ u16sAt f 12 18
+    eighteen-in e = ap entriesFor (with-eighteen f (omega arith) e)
 
-  pub at-most : (k ≡ 0) ⊎ (k ≡ 18) → k ≤ 18
-  at-most (inl e) = omega arith
-  at-most (inr e) = omega arith
+    -- its entries are the file's, where these are not twenty-two with four zeros
+    pub entries-in : Few k → ¬ FourZeros f → entriesOf (wishIn f) ≡ u16sAt f 12 k
+    entries-in (inl e) z = ap entriesOf (no-wish e) ∙ ap (λ m. u16sAt f 12 m) (sym e)
+    entries-in (inr (inl e)) z =
+        ap entriesOf (a-wish (λ q. omega arith)) ∙ eighteen-in e ∙ ap (λ m. u16sAt f 12 m) (sym e)
+    entries-in (inr (inr e)) z =
+        ap entriesOf (a-wish (λ q. omega arith))
+        ∙ in-twenty-two (tableIn f) (λ n. z (e, n))
+        ∙ ap entries (with-twenty-two f (omega arith) e)
+        ∙ ap (λ m. u16sAt f 12 m) (sym e)
+
+    -- else they are the first eighteen of them
+    pub entries-in-four-zeros : FourZeros f → entriesOf (wishIn f) ≡ u16sAt f 12 18
+    entries-in-four-zeros z =
+        ap entriesOf (a-wish (λ q. omega (arith, z .0)))
+        ∙ in-eighteen (tableIn f) (z .1)
+        ∙ ap limits (with-twenty-two f (omega (arith, z .0)) (z .0))
+
+    -- as many records as the file may have the writer takes with its table
+    most-fits : (n : ℕ) → Few k → n ≤ mostRecords k → n ≤ mostFor (Given (tableIn f))
+    most-fits n (inl e) m =
+        let same : mostFor (Given (tableIn f)) ≡ 16372 = ap (λ t. mostFor (Given t)) (without-entries f e) in
+        omega (arith, most-between k)
+    most-fits n (inr (inl e)) m =
+        let same : mostFor (Given (tableIn f)) ≡ 16372 = ap (λ es. mostRecords (length es)) (eighteen-in e) in
+        omega (arith, most-between k)
+    most-fits n (inr (inr e)) m =
+        let least : mostRecords k ≡ 16370 = ap mostRecords e in
+        omega (arith, most-between (length (entriesFor (tableIn f))))
+
+-- ---- a good file has no more records than the writer takes with its table
+pub no-more-than-written : (f : List ℕ) → refusalOf f .number ≡ 0 → recordCount f ≤ mostFor (Given (tableIn f))
+no-more-than-written f z =
+    let g = good-file f z in
+    most-fits f (omega (arith, g .whole)) (recordCount f) (g .few) (g .within)
+
+pub no-more-than-wished : (f : List ℕ) → refusalOf f .number ≡ 0 → recordCount f ≤ mostFor (wishIn f)
+no-more-than-wished f z =
+    let g = good-file f z in
+    case (eqb (tableEntries f) 0)
+    (λ e. rw e (g .most))
+    (λ e. rw e (no-more-than-written f z))
 
 -- ---- a file of its parts
 pub assembled :

@@ -4,7 +4,7 @@ use mathlib.Core.Path.{_≡_, refl, sym, ap, subst, _∙_}
 use mathlib.Core.Bool.{cond}
 use mathlib.Core.Logic.{_⊎_, inl, inr, ⊎-elim}
 use mathlib.Core.List.{List, [], _∷_, _++_}
-use Prim.Native.Nat.{ℕ, _≤_, _<_}
+use Prim.Native.Nat.{ℕ, _+_, _*_, _≤_, _<_}
 use native.Mathlib.Omega.{arith}
 use lib.Dec.{leb, eqb, eqb→eq}
 use lib.ListN.{length, drop}
@@ -21,8 +21,9 @@ use Rattle.stepfile.specs.declared.write.Wish.{Wish}
 use Rattle.stepfile.specs.declared.write.Wish.the-variants.{Given, NoTable}
 use Rattle.stepfile.specs.declared.write.Wrong.{Wrong}
 use Rattle.stepfile.specs.declared.write.Written.{Written}
-use Rattle.stepfile.specs.Writing.{wished, firstWrong, sizeOf, writable, refusedWith, writtenOf, bufferAfter, fileOf}
-use Rattle.stepfile.specs.Refusals.{WrongAt, tableFor, bytesFor, writeRefusals, WriteAnswers}
+use Rattle.stepfile.specs.Writing.{wished, entriesOf, mostFor, firstWrong, sizeOf, writable, refusedWith, writtenOf, bufferAfter, fileOf}
+use Rattle.stepfile.specs.Refusals.{WrongAt, tableFor, TooMany, WrittenWith, writeRefusals, WriteAnswers}
+use Rattle.stepfile.proofs.EntryLaws.{past-most, within-most, written-with, with-no-others}
 use Rattle.stepfile.proofs.WriteLaws.{at-lists, at-record, at-room, written}
 use Rattle.stepfile.proofs.FileRefusals.{ruled}
 use Rattle.stepfile.proofs.RecordRefusals.{found, same, one-number, five-or-six}
@@ -32,15 +33,19 @@ same-table : (w : Wish) → wished w ≡ tableFor w
 same-table (Given t) = refl
 same-table NoTable = refl
 
-same-size : (w : Wish) (cs : List ℕ) → sizeOf w cs ≡ bytesFor w (length cs)
-same-size (Given t) cs = refl
-same-size NoTable cs = refl
+-- the record maximum, by how the table would be written
+pub too-many : (w : Wish) (n : ℕ) → mostFor w < n → (k : ℕ) × WrittenWith w k × TooMany k n
+too-many w n h = (length (entriesOf w), written-with w, past-most (length (entriesOf w)) n h)
+
+pub not-too-many : (w : Wish) (n : ℕ) → n ≤ mostFor w → ¬ ((k : ℕ) × WrittenWith w k × TooMany k n)
+not-too-many w n h q =
+    within-most (length (entriesOf w)) n h (subst (λ k. TooMany k n) (with-no-others w (q .0) (q .1)) (q .2))
 
 module _ (w : Wish) (cs ns out : List ℕ) where
   abbrev listRefusals : List Condition
   listRefusals =
       ((length cs ≡ length ns) else 3)
-      ∷ (16372 < length cs gives 2)
+      ∷ (((k : ℕ) × WrittenWith w k × TooMany k (length cs)) gives 2)
       ∷ (Admitted (tableFor w) else 4)
       ∷ []
 
@@ -48,7 +53,7 @@ module _ (w : Wish) (cs ns out : List ℕ) where
   orderRefusals = (((i : ℕ) × WrongAt cs ns 5 i) gives 5) ∷ (((i : ℕ) × WrongAt cs ns 6 i) gives 6) ∷ []
 
   abbrev roomRefusals : List Condition
-  roomRefusals = (length out < bytesFor w (length cs) gives 15) ∷ []
+  roomRefusals = (((k : ℕ) × WrittenWith w k × (length out < 12 + 2 * k + 4 * length cs)) gives 15) ∷ []
 
   lists-in-order : FirstOf listRefusals (first (writable w cs ns))
   lists-in-order =
@@ -56,7 +61,10 @@ module _ (w : Wish) (cs ns out : List ℕ) where
       first-of (writable w cs ns) listRefusals (
         omega (arith, tests),
         (
-          omega (arith, tests),
+          (
+            λ t. too-many w (length cs) (omega (arith, tests)),
+            (λ t. not-too-many w (length cs) (omega (arith, tests)), refl),
+          ),
           (
             (
               λ t. not-admitted (tableFor w) (λ z. neqb→ne (brokenRule (wished w)) 0 t (rule ∙ z)),
@@ -111,7 +119,8 @@ module _ (w : Wish) (cs ns out : List ℕ) where
 
   list-rule : number ≡ 4 → (itsRule ≡ brokenRule (tableFor w)) × ¬ (itsRule ≡ 0)
   list-rule e =
-      let last = first-append 4 ((eqb (length cs) (length ns) ! 3) ∷ (leb (length cs) 16372 ! 2) ∷ []) ((eqb (brokenRule (wished w)) 0 ! 4) ∷ []) tt e .1 in
+      let before = (eqb (length cs) (length ns) ! 3) ∷ (leb (length cs) (mostFor w) ! 2) ∷ [] in
+      let last = first-append 4 before ((eqb (brokenRule (wished w)) 0 ! 4) ∷ []) tt e .1 in
       let n : ¬ (brokenRule (wished w) ≡ 0) = λ z. let q = rw (eq-eqb (brokenRule (wished w)) 0 z) at last in omega arith in
       let own : itsRule ≡ brokenRule (wished w) = rw (eq-eqb number 4 e) in
       (own ∙ ap brokenRule (same-table w), λ z. n (sym own ∙ z))
@@ -164,10 +173,10 @@ module _ (w : Wish) (cs ns out : List ℕ) where
           of-right listRefusals (orderRefusals ++ roomRefusals) n tt passed
           (of-right orderRefusals roomRefusals n tt (subst (FirstOf orderRefusals) y (records-in-order as-long)) f)
 
-      no-room : length out < bytesFor w (length cs) → Answers (refusedWith 15 0 0) out
+      no-room : length out < sizeOf w cs → Answers (refusedWith 15 0 0) out
       no-room l =
           record {
-            first = by-room 15 (inl (l, refl));
+            first = by-room 15 (inl ((length (entriesOf w), written-with w, l), refl));
             numbers = inr (inr (inr (inr (inr (inr (inl refl))))));
             rule-for = ruled (tableFor w) 15 0 (λ e. absurd (omega arith)) (λ _. refl);
             index-with-5-and-6 = ⊎-elim (λ e. absurd (omega arith)) (λ e. absurd (omega arith));
@@ -176,11 +185,11 @@ module _ (w : Wish) (cs ns out : List ℕ) where
           }
 
       accepted :
-          (size : ℕ) (b : List ℕ) → bytesFor w (length cs) ≤ length out
+          (size : ℕ) (b : List ℕ) → sizeOf w cs ≤ length out
           → Answers (record { number = 0; rule = 0; index = 0; length = size }) b
       accepted size b l =
           record {
-            first = by-room 0 (inr (λ q. omega arith, refl));
+            first = by-room 0 (inr (λ q. omega (arith, with-no-others w (q .0) (q .1), q .2), refl));
             numbers = inl refl;
             rule-for = ruled (tableFor w) 0 0 (λ e. absurd (omega arith)) (λ _. refl);
             index-with-5-and-6 = ⊎-elim (λ e. absurd (omega arith)) (λ e. absurd (omega arith));
@@ -190,7 +199,6 @@ module _ (w : Wish) (cs ns out : List ℕ) where
 
   pub write-answers : Answers (writtenOf w cs ns (length out)) (bufferAfter w cs ns out)
   write-answers =
-      let size = same-size w cs in
       let done : Written = record { number = 0; rule = 0; index = 0; length = sizeOf w cs } in
       let file = fileOf w cs ns ++ drop (sizeOf w cs) out in
       case (eqb number 0)
@@ -202,10 +210,10 @@ module _ (w : Wish) (cs ns out : List ℕ) where
       case (leb (sizeOf w cs) (length out))
       (λ l.
       let room = leb-true (sizeOf w cs) (length out) l in
-      carried done file (written w cs ns out z y room) (accepted z y (sizeOf w cs) file (omega arith)))
+      carried done file (written w cs ns out z y room) (accepted z y (sizeOf w cs) file room))
       (λ l.
       let past = leb-false (sizeOf w cs) (length out) l in
-      carried (refusedWith 15 0 0) out (at-room w cs ns out z y past) (no-room z y (omega arith))))
+      carried (refusedWith 15 0 0) out (at-room w cs ns out z y past) (no-room z y past)))
       (λ u.
       let n = eqb-false (wrong .number) 0 u in
       carried (refusedWith (wrong .number) 0 (wrong .index)) out (at-record w cs ns out z n) (by-record z n)))

@@ -2,21 +2,20 @@
 -- Assumes nothing.
 use mathlib.Core.Path.{_≡_, refl}
 use mathlib.Core.List.{List, [], _∷_, _++_}
-use Prim.Native.Nat.{ℕ, _*_}
+use Prim.Native.Nat.{ℕ, _+_, _*_}
 use native.Mathlib.Omega.{arith}
 use lib.ListN.{length, length-append}
-use Rattle.stepfile.specs.declared.write.Wish.{Wish}
 use Rattle.numbers.proofs.StoreLaws.{length-bytesOf}
-use Rattle.stepfile.specs.Writing.{entriesOf, recordsOf, fileOf, sizeOf}
+use Rattle.stepfile.specs.Writing.{recordsOf, fileWith}
 
 pub length-recordsOf : (cs ns : List ℕ) → length cs ≡ length ns → length (recordsOf cs ns) ≡ 2 * length cs
 length-recordsOf [] ns e = refl
 length-recordsOf (c ∷ cs) [] e = absurd (omega arith)
 length-recordsOf (c ∷ cs) (n ∷ ns) e = let h = length-recordsOf cs ns (omega arith) in omega arith
 
-pub size : (w : Wish) (cs ns : List ℕ) → length cs ≡ length ns → length (fileOf w cs ns) ≡ sizeOf w cs
-size w cs ns e =
+pub size : (es cs ns : List ℕ) → length cs ≡ length ns → length (fileWith es cs ns) ≡ 12 + 2 * length es + 4 * length cs
+size es cs ns e =
     let r = length-recordsOf cs ns e in
-    let b = length-bytesOf (entriesOf w ++ recordsOf cs ns) in
-    let a = length-append (entriesOf w) (recordsOf cs ns) in
+    let b = length-bytesOf (es ++ recordsOf cs ns) in
+    let a = length-append es (recordsOf cs ns) in
     omega arith

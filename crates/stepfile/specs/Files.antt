@@ -1,4 +1,5 @@
--- Document 01, "Step files, parts and writing": the header of a file, refusals 1 to 4, its table and its record bytes.
+-- Document 01, "Step files, parts and writing", with the twenty-two entries of document 02's request 6: the header of a file, refusals
+-- 1 to 4, its table and its record bytes.
 -- Assumes nothing.
 use mathlib.Core.Bool.{cond, _&&_, _||_}
 use mathlib.Core.List.{List, [], _∷_, _++_}
@@ -28,22 +29,29 @@ abbrev pub recordCount : List ℕ → ℕ
 recordCount f = u32At f 8
 
 -- ---- refusals 1, 2 and 3, of a file of so many bytes with these header fields
+-- the record maximum of a file with so many entries
+abbrev pub mostRecords : ℕ → ℕ
+mostRecords k = cond (eqb k 22) 16370 16372
+
 abbrev pub headedBy : ℕ → ℕ → ℕ → ℕ → ℕ → List Check
 headedBy len offset k from n =
     (leb 12 len ! 1)
     ∷ (eqb offset 12 ! 2)
-    ∷ ((eqb k 0 || eqb k 18) ! 2)
+    ∷ ((eqb k 0 || (eqb k 18 || eqb k 22)) ! 2)
     ∷ (eqb from (12 + 2 * k) ! 2)
-    ∷ (leb n 16372 ! 2)
+    ∷ (leb n (mostRecords k) ! 2)
     ∷ (eqb len (12 + 2 * k + 4 * n) ! 3)
     ∷ []
 
 abbrev pub headed : List ℕ → List Check
 headed f = headedBy (length f) (tableOffset f) (tableEntries f) (recordOffset f) (recordCount f)
 
--- ---- the table: eighteen entries where the header says so and there is room for them, else the default
+-- ---- the table: twenty-two entries, or eighteen and four delays of 0, where the header says so and there is room for them, else the
+-- default
 unfoldable pub tableIn : List ℕ → Table
-tableIn f = cond (leb 48 (length f) && eqb (tableEntries f) 18) (tableOf (u16sAt f 12 18)) default
+tableIn f =
+    cond (eqb (tableEntries f) 22 && leb 56 (length f)) (tableOf (u16sAt f 12 22))
+    (cond (eqb (tableEntries f) 18 && leb 48 (length f)) (tableOf (u16sAt f 12 18)) default)
 
 -- ---- refusals 1 to 4, the rule's number with 4 and 0 otherwise
 abbrev pub checks : List ℕ → List Check

@@ -1,15 +1,17 @@
--- Document 01, "Step files, parts and writing" and "Numbers for what is refused", a second time: when a file and a write are refused,
--- as statements, what a good file holds, and what a refused write leaves. It shares no definition with Bytes.antt, Files.antt,
--- Records.antt and Writing.antt.
+-- Document 01, "Step files, parts and writing" and "Numbers for what is refused", and document 02's request 6, a second time: when a
+-- file and a write are refused, as statements, what a good file holds, and what a refused write leaves. It shares no definition with
+-- Bytes.antt, Files.antt, Records.antt and Writing.antt.
 -- Assumes nothing.
 use mathlib.Core.Path.{_≡_}
+use mathlib.Core.Bool.{cond}
 use mathlib.Core.Logic.{_⊎_}
 use mathlib.Core.List.{List, [], _∷_}
 use Prim.Native.Nat.{ℕ, _+_, _*_, _≤_, _<_}
+use lib.Dec.{eqb}
 use lib.ListN.{length, getD}
 use Rattle.checks.specs.Conditions.{Condition, _gives_, _else_, FirstOf, OneOf}
 use Rattle.limits.specs.declared.Table.{Table}
-use Rattle.limits.specs.Refusals.{byDefault, Admitted, broken}
+use Rattle.limits.specs.Refusals.{byDefault, NoDelays, Admitted, broken}
 use Rattle.shift.specs.declared.Reading.{Reading}
 use Rattle.shift.specs.declared.Reading.the-variants.{WrongCode}
 use Rattle.shift.specs.Refusals.{refusals, Reads}
@@ -18,7 +20,7 @@ use Rattle.stepfile.specs.declared.write.Wish.the-variants.{Given, NoTab
 
 -- the rule's number: with 4 that of the first rule that the table breaks, else 0
 pub record RuleFor (t : Table) (number rule : ℕ) : Type 0 where
-  pub with-4 : number ≡ 4 → FirstOf (broken t) rule × (1 ≤ rule) × (rule ≤ 15)
+  pub with-4 : number ≡ 4 → FirstOf (broken t) rule × (1 ≤ rule) × (rule ≤ 16)
   pub else-0 : ¬ (number ≡ 4) → rule ≡ 0
 
 -- ---- a file
@@ -30,9 +32,9 @@ bits16 f i = getD f i 0 + 256 * getD f (i + 1) 0
 abbrev pub bits32 : List ℕ → ℕ → ℕ
 bits32 f i = getD f i 0 + 256 * getD f (i + 1) 0 + 65536 * getD f (i + 2) 0 + 16777216 * getD f (i + 3) 0
 
--- the eighteen entries behind the header
-abbrev pub tableBehind : List ℕ → Table
-tableBehind f = record {
+-- the eighteen entries behind the header, with four delays
+abbrev pub eighteenBehind : List ℕ → ℕ → ℕ → ℕ → ℕ → Table
+eighteenBehind f plainOpen errorOpen plainClose errorClose = record {
   «channel_dl» = bits16 f 12;
   «engine_sync_dl» = bits16 f 14;
   «engine_zero_dl» = bits16 f 16;
@@ -51,18 +53,37 @@ tableBehind f = record {
   «release_dl» = bits16 f 42;
   «close_clutch_dl» = bits16 f 44;
   «change_dl» = bits16 f 46;
+  «clutch_open_de» = plainOpen;
+  «error_clutch_open_de» = errorOpen;
+  «clutch_close_de» = plainClose;
+  «error_clutch_close_de» = errorClose;
 }
+
+-- with eighteen entries the four delays are 0, with twenty-two they stand behind the others
+abbrev pub shortTable : List ℕ → Table
+shortTable f = eighteenBehind f 0 0 0 0
+
+abbrev pub longTable : List ℕ → Table
+longTable f = eighteenBehind f (bits16 f 48) (bits16 f 50) (bits16 f 52) (bits16 f 54)
+
+-- as many entries as the header says
+abbrev pub tableBehind : List ℕ → Table
+tableBehind f = cond (eqb (bits16 f 2) 22) (longTable f) (shortTable f)
+
+-- more records than there may be with so many entries
+abbrev pub TooMany : ℕ → ℕ → Type 0
+TooMany entries records = (16372 < records) ⊎ ((entries ≡ 22) × (16370 < records))
 
 -- 1, 2, 3, 4; a file without entries has the default table, which is admitted
 abbrev pub fileRefusals : List ℕ → List Condition
 fileRefusals f =
     (length f < 12 gives 1)
     ∷ ((bits16 f 0 ≡ 12) else 2)
-    ∷ (((bits16 f 2 ≡ 0) ⊎ (bits16 f 2 ≡ 18)) else 2)
+    ∷ (((bits16 f 2 ≡ 0) ⊎ (bits16 f 2 ≡ 18) ⊎ (bits16 f 2 ≡ 22)) else 2)
     ∷ ((bits32 f 4 ≡ 12 + 2 * bits16 f 2) else 2)
-    ∷ (bits32 f 8 ≤ 16372 else 2)
+    ∷ (TooMany (bits16 f 2) (bits32 f 8) gives 2)
     ∷ ((length f ≡ 12 + 2 * bits16 f 2 + 4 * bits32 f 8) else 3)
-    ∷ ((bits16 f 2 ≡ 18 → Admitted (tableBehind f)) else 4)
+    ∷ ((¬ (bits16 f 2 ≡ 0) → Admitted (tableBehind f)) else 4)
     ∷ []
 
 -- what a file is refused with
@@ -79,7 +100,8 @@ place f index = 12 + 2 * bits16 f 2 + 4 * index
 -- amount mean
 pub record FileHolds (f : List ℕ) (t : Table) (records : List Reading) : Type 0 where
   pub without-entries : bits16 f 2 ≡ 0 → t ≡ byDefault
-  pub with-entries : bits16 f 2 ≡ 18 → t ≡ tableBehind f
+  pub with-eighteen : bits16 f 2 ≡ 18 → t ≡ shortTable f
+  pub with-twenty-two : bits16 f 2 ≡ 22 → t ≡ longTable f
   pub count : length records ≡ bits32 f 8
   pub each :
       (i : ℕ) → i < length records
@@ -98,19 +120,20 @@ abbrev pub tableFor : Wish → Table
 tableFor (Given t) = t
 tableFor NoTable = byDefault
 
-abbrev pub bytesFor : Wish → ℕ → ℕ
-bytesFor (Given t) records = 12 + 2 * 18 + 4 * records
-bytesFor NoTable records = 12 + 4 * records
+-- it is written with so many entries: a table whose four delays are 0 with 18, any other with 22
+abbrev pub WrittenWith : Wish → ℕ → Type 0
+WrittenWith (Given t) entries = (NoDelays t × (entries ≡ 18)) ⊎ (¬ NoDelays t × (entries ≡ 22))
+WrittenWith NoTable entries = entries ≡ 0
 
 -- 3, 2, 4, first record with 5 or 6, 15
 abbrev pub writeRefusals : Wish → List ℕ → List ℕ → List ℕ → List Condition
 writeRefusals wish codes amounts out =
     ((length codes ≡ length amounts) else 3)
-    ∷ (16372 < length codes gives 2)
+    ∷ (((k : ℕ) × WrittenWith wish k × TooMany k (length codes)) gives 2)
     ∷ (Admitted (tableFor wish) else 4)
     ∷ (((i : ℕ) × WrongAt codes amounts 5 i) gives 5)
     ∷ (((i : ℕ) × WrongAt codes amounts 6 i) gives 6)
-    ∷ (length out < bytesFor wish (length codes) gives 15)
+    ∷ (((k : ℕ) × WrittenWith wish k × (length out < 12 + 2 * k + 4 * length codes)) gives 15)
     ∷ []
 
 -- a write that answers a number, a rule, an index and a length, and the buffer after it

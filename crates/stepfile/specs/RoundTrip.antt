@@ -1,10 +1,12 @@
 -- What stands in a file, as the writer takes it: a wish, codes and amounts; and what codes and amounts mean.
 -- Assumes nothing.
+use mathlib.Core.Path.{_≡_}
 use mathlib.Core.Bool.{cond}
 use mathlib.Core.List.{List, [], _∷_}
 use Prim.Native.Nat.{ℕ, _+_, _*_, _<_}
 use lib.Dec.{eqb}
 use lib.ListN.{getD}
+use Rattle.limits.specs.Refusals.{NoDelays}
 use Rattle.shift.specs.declared.Reading.{Reading}
 use Rattle.shift.specs.declared.Reading.the-variants.{Means, WrongCode, WrongAmount}
 use Rattle.shift.specs.Answers.{reading}
@@ -36,6 +38,10 @@ codesOf = everyFour (λ code middle low high. code)
 
 abbrev pub amountsOf : List ℕ → List ℕ
 amountsOf = everyFour (λ code middle low high. low + 256 * high)
+
+-- twenty-two entries of which the four delays are 0; the writer writes such a table in eighteen
+abbrev pub FourZeros : List ℕ → Type 0
+FourZeros f = (tableEntries f ≡ 22) × NoDelays (tableIn f)
 
 -- a file taken apart
 abbrev pub wishIn : List ℕ → Wish

@@ -1,4 +1,4 @@
--- Document 01, "Step files, parts and writing": the bytes of a file, and what the writer answers.
+-- Document 01, "Step files, parts and writing", with document 02's request 6: the bytes of a file, and what the writer answers.
 -- Assumes nothing.
 use mathlib.Core.Bool.{cond}
 use mathlib.Core.List.{List, [], _∷_, _++_}
@@ -7,7 +7,7 @@ use lib.Dec.{leb, eqb}
 use lib.ListN.{length, drop}
 use Rattle.checks.specs.Checks.{Check, _!_, first}
 use Rattle.limits.specs.declared.Table.{Table}
-use Rattle.limits.specs.Limits.{entries, default}
+use Rattle.limits.specs.Limits.{limits, entries, undelayed, default}
 use Rattle.limits.specs.Rules.{brokenRule}
 use Rattle.shift.specs.Answers.{reading, refusal}
 use Rattle.stepfile.specs.declared.write.Wish.{Wish}
@@ -15,15 +15,24 @@ use Rattle.stepfile.specs.declared.write.Wish.the-variants.{Given, NoTab
 use Rattle.stepfile.specs.declared.write.Written.{Written}
 use Rattle.stepfile.specs.declared.write.Wrong.{Wrong}
 use Rattle.numbers.specs.Bytes.{bytesOf}
+use Rattle.stepfile.specs.Files.{mostRecords}
 
 -- ---- the table or the wish for none
 abbrev pub wished : Wish → Table
 wished (Given t) = t
 wished NoTable = default
 
+-- a table whose four delays are 0 is written in eighteen entries, any other in twenty-two
+abbrev pub entriesFor : Table → List ℕ
+entriesFor t = cond (undelayed t) (limits t) (entries t)
+
 abbrev pub entriesOf : Wish → List ℕ
-entriesOf (Given t) = entries t
+entriesOf (Given t) = entriesFor t
 entriesOf NoTable = []
+
+-- the record maximum, by how the table would be written
+abbrev pub mostFor : Wish → ℕ
+mostFor w = mostRecords (length (entriesOf w))
 
 -- ---- the file, in numbers of 16 bits: a 32-bit field of the header has a second half of 0, and a record's code with the zero byte
 -- behind it is one number
@@ -35,8 +44,12 @@ recordsOf [] ns = []
 recordsOf (c ∷ cs) [] = []
 recordsOf (c ∷ cs) (n ∷ ns) = c ∷ n ∷ recordsOf cs ns
 
+-- with these entries, codes and amounts
+abbrev pub fileWith : List ℕ → List ℕ → List ℕ → List ℕ
+fileWith es cs ns = bytesOf (headerOf (length es) (length cs) ++ (es ++ recordsOf cs ns))
+
 abbrev pub fileOf : Wish → List ℕ → List ℕ → List ℕ
-fileOf w cs ns = bytesOf (headerOf (length (entriesOf w)) (length cs) ++ (entriesOf w ++ recordsOf cs ns))
+fileOf w cs ns = fileWith (entriesOf w) cs ns
 
 abbrev pub sizeOf : Wish → List ℕ → ℕ
 sizeOf w cs = 12 + 2 * length (entriesOf w) + 4 * length cs
@@ -52,11 +65,11 @@ firstWrong i (c ∷ cs) [] = record { number = 0; index = 0 }
 firstWrong i (c ∷ cs) (n ∷ ns) = wrongOr (refusal (reading c 0 n)) i (firstWrong (suc i) cs ns)
 
 -- ---- refusals in the order 3, 2, 4, first record with 5 or 6, 15
-abbrev pub lists : ℕ → ℕ → ℕ → List Check
-lists codes amounts rule = (eqb codes amounts ! 3) ∷ (leb codes 16372 ! 2) ∷ (eqb rule 0 ! 4) ∷ []
+abbrev pub lists : ℕ → ℕ → ℕ → ℕ → List Check
+lists codes amounts most rule = (eqb codes amounts ! 3) ∷ (leb codes most ! 2) ∷ (eqb rule 0 ! 4) ∷ []
 
 abbrev pub writable : Wish → List ℕ → List ℕ → List Check
-writable w cs ns = lists (length cs) (length ns) (brokenRule (wished w))
+writable w cs ns = lists (length cs) (length ns) (mostFor w) (brokenRule (wished w))
 
 -- what the writer answers: with the first three checks' number, the table's broken rule, the first wrong record, the file's size and
 -- the room for it

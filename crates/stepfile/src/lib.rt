@@ -1,11 +1,13 @@
 // Step files: bytes to header, table and records, and back.
 ghost use mathlib.Core.Path.{_≡_};
 ghost use Prim.Native.Nat.{_+_, _<_, _≤_};
+ghost use lib.ListN.{replicate};
+ghost use lib.Seq.{sets};
 ghost use Rattle.checks.specs.Checks.{first};
 ghost use Rattle.shift.specs.Answers.{refusal};
 ghost use Rattle.numbers.specs.Bytes.{u16sAt};
 ghost use Rattle.stepfile.specs.Records.{recordOf};
-ghost use Rattle.stepfile.specs.Files.{headed, headedBy, tableIn, refusalOf, fromOffset, recordBytes};
+ghost use Rattle.stepfile.specs.Files.{mostRecords, headed, headedBy, tableIn, refusalOf, fromOffset, recordBytes};
 use limits::Table;
 use numbers::u16_at;
 use numbers::u32_at;
@@ -61,13 +63,13 @@ fn fields(len: usize, offset: usize, entries: usize, from: usize, count: usize) 
     if offset != 12 {
         return 2;
     }
-    if (entries != 0) & (entries != 18) {
+    if (entries != 0) & ((entries != 18) & (entries != 22)) {
         return 2;
     }
     if from != 12 + 2 * entries {
         return 2;
     }
-    if 16372 < count {
+    if most_records(entries) < count {
         return 2;
     }
     if len != 12 + 2 * entries + 4 * count {
@@ -76,26 +78,40 @@ fn fields(len: usize, offset: usize, entries: usize, from: usize, count: usize) 
     0
 }
 
-// The table of any file: the eighteen entries behind its header where the header says so and they are there, else the default.
+// The record maximum of a file with so many entries.
+fn most_records(entries: usize) -> usize
+    ensures { λ r. ⌜ r ≡ mostRecords entries ⌝ }
+{
+    if entries == 22 {
+        return 16370;
+    }
+    16372
+}
+
+// The table of any file: the twenty-two entries behind its header, or eighteen and four delays of 0, where the header says so and they
+// are there, else the default.
 pub fn table(file: &[u8]) -> Table
     ensures { λ r. ⌜ r ≡ tableIn (now (file .entry)) ⌝ }
 {
-    if file.len() < 48 {
-        return Table::default();
+    let len = file.len();
+    let entries = u16_at(file, 2);
+    if (entries == 22) & (56 <= len) {
+        return Table::of(entries_at(file, 22));
     }
-    if u16_at(file, 2) != 18 {
-        return Table::default();
+    if (entries == 18) & (48 <= len) {
+        return Table::of(entries_at(file, 18));
     }
-    Table::of(entries_at(file))
+    Table::default()
 }
 
-// The eighteen entries that stand behind the header.
-fn entries_at(file: &[u8]) -> [u16; 18]
-    ensures { λ r. ⌜ r ≡ u16sAt (now (file .entry)) 12 18 ⌝ }
+// The first so many entries behind the header, and zeros for the others.
+fn entries_at(file: &[u8], count: usize) -> [u16; 22]
+    requires { ⌜ count ≤ 22 ⌝ }
+    ensures { λ r. ⌜ r ≡ sets (replicate 22 0) 0 (u16sAt (now (file .entry)) 12 count) ⌝ }
 {
-    let mut entries = [0u16; 18];
+    let mut entries = [0u16; 22];
     let mut i: usize = 0;
-    while i < 18 {
+    while i < count {
         entries[i] = u16_at(file, 12 + 2 * i);
         i += 1;
     }

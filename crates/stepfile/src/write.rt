@@ -1,11 +1,13 @@
 // Writing a step file into a lent buffer.
 ghost use mathlib.Core.Path.{_≡_};
 ghost use Prim.Native.Nat.{ℕ, _+_, _*_, _≤_, _<_};
-ghost use lib.ListN.{length, getD};
+ghost use lib.ListN.{length, getD, take};
 ghost use lib.Seq.{sets};
 ghost use Rattle.limits.specs.Limits.{entries};
 ghost use Rattle.numbers.specs.Bytes.{bytesOf};
-ghost use Rattle.stepfile.specs.Writing.{wished, entriesOf, headerOf, recordsOf, fileOf, sizeOf, firstWrong, refusedWith, writtenOf, bufferAfter};
+ghost use Rattle.stepfile.specs.declared.write.Wish.the-variants.{Given};
+ghost use Rattle.stepfile.specs.Writing.{wished, entriesFor, entriesOf, mostFor, headerOf, recordsOf, fileOf, sizeOf, firstWrong, refusedWith, writtenOf, bufferAfter};
+use crate::most_records;
 use limits::Table;
 use numbers::put;
 use shift::refusal_of;
@@ -46,10 +48,27 @@ impl Wish {
         ensures { λ r. ⌜ r ≡ length (entriesOf self) ⌝ }
     {
         match self {
-            Wish::Given(_) => 18,
+            Wish::Given(table) => entries_for(table),
             Wish::NoTable => 0,
         }
     }
+}
+
+// How many entries a table is written with: eighteen where its four delays are 0, else twenty-two.
+fn entries_for(table: Table) -> usize
+    ensures { λ r. ⌜ r ≡ length (entriesFor table) ⌝ }
+{
+    if table.is_undelayed() {
+        return 18;
+    }
+    22
+}
+
+// The record maximum of a file with this table, admitted or not, by how it would be written.
+pub fn most_for(table: Table) -> usize
+    ensures { λ r. ⌜ r ≡ mostFor (Given table) ⌝ }
+{
+    most_records(entries_for(table))
 }
 
 // Writes the file at the start of `out`, or changes no byte: refusals 3, 2, 4, 5 or 6 at the first record with one, 15.
@@ -61,7 +80,8 @@ pub fn write(wish: Wish, codes: &[u8], amounts: &[u32], out: &mut [u8]) -> Writt
     if count != amounts.len() {
         return refuse(3, 0, 0);
     }
-    if 16372 < count {
+    let entries = wish.entries();
+    if most_records(entries) < count {
         return refuse(2, 0, 0);
     }
     let rule = wish.table().broken_rule();
@@ -74,7 +94,7 @@ pub fn write(wish: Wish, codes: &[u8], amounts: &[u32], out: &mut [u8]) -> Writt
     if number != 0 {
         return refuse(number, 0, index);
     }
-    let size = 12 + 2 * wish.entries() + 4 * count;
+    let size = 12 + 2 * entries + 4 * count;
     if out.len() < size {
         return refuse(15, 0, 0);
     }
@@ -129,23 +149,15 @@ fn put_file(out: &mut [u8], wish: Wish, codes: &[u8], amounts: &[u32])
     requires { ⌜ ((i : ℕ) → getD (now amounts) i 0 < 65536) ⌝ }
     ensures { λ _. ⌜ now (out .exit) ≡ sets (now (out .entry)) 0 (fileOf wish (now (codes .entry)) (now (amounts .entry))) ⌝ }
 {
-    let count = codes.len() as u16;
-    match wish {
-        Wish::Given(table) => {
-            put_header(out, 18, count);
-            put_table(out, table);
-            put_records(out, 48, codes, amounts);
-        }
-        Wish::NoTable => {
-            put_header(out, 0, count);
-            put_records(out, 12, codes, amounts);
-        }
-    }
+    let entries = wish.entries();
+    put_header(out, entries as u16, codes.len() as u16);
+    put_table(out, wish.table(), entries);
+    put_records(out, 12 + 2 * entries, codes, amounts);
 }
 
 // The header of a file with so many entries and records, at the start.
 fn put_header(out: &mut [u8], entries: u16, count: u16)
-    requires { ⌜ entries ≤ 18 ⌝ }
+    requires { ⌜ entries ≤ 22 ⌝ }
     ensures { λ _. ⌜ now (out .exit) ≡ sets (now (out .entry)) 0 (bytesOf (headerOf entries count)) ⌝ }
 {
     put(out, 0, 12);
@@ -156,13 +168,14 @@ fn put_header(out: &mut [u8], entries: u16, count: u16)
     put(out, 10, 0);
 }
 
-// The eighteen entries behind the header.
-fn put_table(out: &mut [u8], table: Table)
-    ensures { λ _. ⌜ now (out .exit) ≡ sets (now (out .entry)) 12 (bytesOf (entries table)) ⌝ }
+// The first so many entries of a table behind the header.
+fn put_table(out: &mut [u8], table: Table, count: usize)
+    requires { ⌜ count ≤ 22 ⌝ }
+    ensures { λ _. ⌜ now (out .exit) ≡ sets (now (out .entry)) 12 (bytesOf (take count (entries table))) ⌝ }
 {
     let entries = table.entries();
     let mut i: usize = 0;
-    while i < 18 {
+    while i < count {
         put(out, 12 + 2 * i, entries[i]);
         i += 1;
     }

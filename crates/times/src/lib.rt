@@ -1,4 +1,4 @@
-// Times against limits: sums are compared, without wrapping.
+// Times against limits, without wrapping.
 ghost use mathlib.Core.Path.{_≡_};
 ghost use Prim.Native.Nat.{_+_, _-_};
 ghost use lib.Dec.{ltb};
@@ -24,11 +24,15 @@ pub fn is_late(clock: u32, time: u32, ex: u16) -> bool
     time as u64 + (ex as u64) < clock as u64
 }
 
-// Asking for the clutch is too early for the DE that runs from `time`. Equal is allowed.
-pub fn is_early(clock: u32, time: u32, de: u16) -> bool
-    ensures { λ r. ⌜ r ≡ ltb clock (time + de) ⌝ }
+// A step is too early for the delay that runs from `time`. Equal is allowed. The time since is asked for, which leaves the judge's loop
+// more room than the sum.
+pub fn is_early(clock: u32, time: u32, delay: u16) -> bool
+    ensures { λ r. ⌜ r ≡ ltb clock (time + delay) ⌝ }
 {
-    (clock as u64) < time as u64 + (de as u64)
+    if clock < time {
+        return true;
+    }
+    clock - time < delay as u32
 }
 
 // A time, and a limit from it on.

@@ -10,19 +10,19 @@ use lib.ListN.{getD}
 abbrev pub lengths : ℕ → ℕ → ℕ → List Bool
 lengths a b c =
     false
-    ∷ (eqb a 36 && eqb b 0 && eqb c 0)
-    ∷ (eqb a 61 && eqb b 0 && eqb c 0)
-    ∷ (eqb a 60 && eqb b 0 && eqb c 0)
+    ∷ (eqb a 44 && eqb b 0 && eqb c 0)
+    ∷ (eqb a 69 && eqb b 0 && eqb c 0)
+    ∷ (eqb a 68 && eqb b 0 && eqb c 0)
     ∷ (eqb a 0 && eqb c 0)
     ∷ (eqb a 0 && eqb c 0)
     ∷ eqb a 0
     ∷ eqb a 16
-    ∷ (leb 37 a && leb a 66000 && eqb (a % 4) 1)
-    ∷ (eqb a 36 && eqb (b % 4) 0 && eqb c 0)
-    ∷ (eqb a 56 && eqb c 0)
+    ∷ (leb 45 a && leb a 66000 && eqb (a % 4) 1)
+    ∷ (eqb a 44 && eqb (b % 4) 0 && eqb c 0)
+    ∷ (eqb a 64 && eqb c 0)
     ∷ eqb a 0
     ∷ (eqb a 8 && eqb c 0)
-    ∷ eqb a 68
+    ∷ eqb a 76
     ∷ []
 
 abbrev pub sized : ℕ → ℕ → ℕ → ℕ → Bool

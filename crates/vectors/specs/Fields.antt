@@ -20,18 +20,18 @@ numbersAt read step i (suc n) = read i ∷ numbersAt read step (i + step) n
 abbrev pub u32sAt : List ℕ → ℕ → ℕ → List ℕ
 u32sAt l i n = numbersAt (u32At l) 4 i n
 
--- a table is its eighteen entries; a state, its eight fields, stands behind a table
+-- a table is its twenty-two entries; a state, its eight fields, stands behind a table
 abbrev pub tableAt : List ℕ → ℕ → Table
-tableAt l i = tableOf (u16sAt l i 18)
+tableAt l i = tableOf (u16sAt l i 22)
 
 abbrev pub stateIn : List ℕ → State
 stateIn l = record {
-  clock = u32At l 36;
-  «gear_box» = getD l 40 0;
-  phase = getD l 41 0;
-  «phase_time» = u32At l 42;
-  stage = getD l 46 0;
-  «stage_time» = u32At l 47;
-  «request_time» = u32At l 51;
-  «failed_phase» = getD l 55 0;
+  clock = u32At l 44;
+  «gear_box» = getD l 48 0;
+  phase = getD l 49 0;
+  «phase_time» = u32At l 50;
+  stage = getD l 54 0;
+  «stage_time» = u32At l 55;
+  «request_time» = u32At l 59;
+  «failed_phase» = getD l 63 0;
 }

@@ -20,15 +20,15 @@ pub(crate) fn admit(a: &[u8]) {
 }
 
 pub(crate) fn step(a: &[u8]) {
-    print_answer(state_in(a).step(table_at(a, 0), byte_at(a, 56), u32_at(a, 57)));
+    print_answer(state_in(a).step(table_at(a, 0), byte_at(a, 64), u32_at(a, 65)));
 }
 
 pub(crate) fn advance(a: &[u8]) {
     let state = state_in(a);
     let table = table_at(a, 0);
-    let code = byte_at(a, 56);
-    let middle = byte_at(a, 57);
-    print_answer(gateway::advanced(state, table, code, middle, byte_at(a, 58), byte_at(a, 59)));
+    let code = byte_at(a, 64);
+    let middle = byte_at(a, 65);
+    print_answer(gateway::advanced(state, table, code, middle, byte_at(a, 66), byte_at(a, 67)));
 }
 
 fn print_answer(answer: Answer) {
@@ -113,9 +113,9 @@ pub(crate) fn fetch(a: &[u8], list: &[u8]) {
 }
 
 pub(crate) fn extend(a: &[u8], records: &[u8], list: &mut [u8]) {
-    let held = usize_at(a, 56);
+    let held = usize_at(a, 64);
     let state = state_in(a);
-    let count = u32_at(a, 64);
+    let count = u32_at(a, 72);
     let table = table_at(a, 0);
     listing::extend(list, held, state, count, table, records);
 }

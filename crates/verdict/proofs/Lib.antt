@@ -7,3 +7,4 @@ pub mod Refusals
 pub mod Determined
 pub mod KnownFiles
 pub mod Before
+pub mod OldFleet

@@ -3,19 +3,20 @@
 -- Assumes nothing.
 use mathlib.Core.Path.{_≡_, refl, sym, ap, _∙_}
 use mathlib.Core.Bool.{Bool, true, false, cond, _||_}
-use mathlib.Core.Logic.{⊎-elim}
+use mathlib.Core.Logic.{inl, inr}
 use mathlib.Core.List.{List}
 use Prim.Native.Nat.{ℕ, _+_, _*_, _≤_, _<_}
 use native.Mathlib.Omega.{arith}
-use lib.Dec.{leb, eqb, eqb→eq}
+use lib.Dec.{leb, eqb}
 use lib.ListN.{length, take}
 use lib.Seq.{getD-take, length-take-le}
 use borrow.Author.Tests.{le-leb, ne-eqb, leb-true}
 use Rattle.checks.specs.Checks.{first}
-use Rattle.checks.proofs.Tests.{case, passes, either}
+use Rattle.checks.proofs.Tests.{case, passes}
 use Rattle.stepfile.specs.declared.Refusal.{Refusal}
 use Rattle.numbers.specs.Bytes.{u16At}
-use Rattle.stepfile.specs.Files.{headedBy, headed, tableOffset, tableEntries, recordOffset, recordCount, refusalOf}
+use Rattle.stepfile.specs.Files.{mostRecords, headedBy, headed, tableOffset, tableEntries, recordOffset, recordCount, refusalOf}
+use Rattle.stepfile.proofs.EntryLaws.{Few, few, most-between}
 use Rattle.stepfile.proofs.FileLaws.{header-refused}
 use Rattle.verdict.specs.Verdicts.{unread, verdictOf}
 use Rattle.verdict.proofs.Judging.{unread-file}
@@ -25,7 +26,7 @@ abbrev byField : Bool → Bool → Bool → Bool → ℕ
 byField a b c d = cond a (cond b (cond c (cond d 3 2) 2) 2) 2
 
 abbrev tooLong : ℕ → ℕ → ℕ → ℕ → ℕ
-tooLong offset k from n = byField (eqb offset 12) (eqb k 0 || eqb k 18) (eqb from (12 + 2 * k)) (leb n 16372)
+tooLong offset k from n = byField (eqb offset 12) (eqb k 0 || (eqb k 18 || eqb k 22)) (eqb from (12 + 2 * k)) (leb n (mostRecords k))
 
 some-field : (a b c d : Bool) → ¬ (byField a b c d ≡ 0)
 some-field false b c d e = omega arith
@@ -34,18 +35,20 @@ some-field true true false d e = omega arith
 some-field true true true false e = omega arith
 some-field true true true true e = omega arith
 
-never-right : (len k n : ℕ) → 65536 < len → (eqb k 0 || eqb k 18) ≡ true → n ≤ 16372 → ¬ (len ≡ 12 + 2 * k + 4 * n)
-never-right len k n h a m e =
-    ⊎-elim (λ t. let z = eqb→eq k 0 t in omega arith) (λ t. let z = eqb→eq k 18 t in omega arith)
-    (either (eqb k 0) (eqb k 18) (passes (eqb k 0 || eqb k 18) a))
+never-right : (len k n : ℕ) → 65536 < len → Few k → n ≤ mostRecords k → ¬ (len ≡ 12 + 2 * k + 4 * n)
+never-right len k n h (inl z) m e = omega (arith, most-between k)
+never-right len k n h (inr (inl z)) m e = omega (arith, most-between k)
+never-right len k n h (inr (inr z)) m e = let least : mostRecords k ≡ 16370 = ap mostRecords z in omega arith
 
 long-header : (len offset k from n : ℕ) → 65536 < len → first (headedBy len offset k from n) ≡ tooLong offset k from n
 long-header len offset k from n h =
     rw (le-leb 12 len (omega arith))
-    (case (eqb k 0 || eqb k 18)
+    (case (eqb k 0 || (eqb k 18 || eqb k 22))
     (λ a.
-    case (leb n 16372)
-    (λ b. rw (a, b, ne-eqb len (12 + 2 * k + 4 * n) (never-right len k n h a (leb-true n 16372 b))))
+    case (leb n (mostRecords k))
+    (λ b.
+    let z = few k (passes (eqb k 0 || (eqb k 18 || eqb k 22)) a) in
+    rw (a, b, ne-eqb len (12 + 2 * k + 4 * n) (never-right len k n h z (leb-true n (mostRecords k) b))))
     (λ b. rw (a, b)))
     (λ a. rw a))
 
@@ -76,8 +79,8 @@ module _ (f : List ℕ) (h : 65536 < length f) where
 
   not-good : ¬ (first (headed f) ≡ 0)
   not-good e =
-      some-field (eqb (tableOffset f) 12) (eqb (tableEntries f) 0 || eqb (tableEntries f) 18)
-      (eqb (recordOffset f) (12 + 2 * tableEntries f)) (leb (recordCount f) 16372)
+      some-field (eqb (tableOffset f) 12) (eqb (tableEntries f) 0 || (eqb (tableEntries f) 18 || eqb (tableEntries f) 22))
+      (eqb (recordOffset f) (12 + 2 * tableEntries f)) (leb (recordCount f) (mostRecords (tableEntries f)))
       (sym (long-header (length f) (tableOffset f) (tableEntries f) (recordOffset f) (recordCount f) h) ∙ e)
 
   same-refusal : refusalOf g ≡ refusalOf f

@@ -119,7 +119,7 @@ module _ (f : List ℕ) where
     none-there : verdict .number < 9 → verdict .excess ≡ 0
     none-there l =
         read-files f z .over
-        ∙ none-below-9 (tableIn f) (verdict .state) (led (verdict .state) (at (readingsOf f) (verdict .index)) .clock) (verdict .number) l
+        ∙ none-below-9 (tableIn f) (verdict .state) _ (led (verdict .state) (at (readingsOf f) (verdict .index)) .clock) (verdict .number) l
 
     is-read : JudgeAnswers f verdict
     is-read =

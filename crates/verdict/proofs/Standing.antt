@@ -136,8 +136,8 @@ module _ (t : Table) (bytes : List ℕ) (begin : State) (count : ℕ) (s : State
           let k = lateBy device (t .«channel_dl») s now in
           let late = late-is-refused device (t .«channel_dl») s now in
           ap (λ over. ofRun (record { count = index; number = k; excess = over; state = s })) (so-far-over t s now l)
-          ∙ stops (refusedWith k (excessBy t s now k) s)
-          (refuses k (excessBy t s now k) (ticked n s) s late ∙ ap (answerTo t s (Means (Tick n))) (too-late t s now l) ∙ as-step (Tick n) e)
+          ∙ stops (refusedWith k (excessBy t s 0 now k) s)
+          (refuses k (excessBy t s 0 now k) (ticked n s) s late ∙ ap (answerTo t s (Means (Tick n))) (too-late t s now l) ∙ as-step (Tick n) e)
           late
 
   -- there is no record left

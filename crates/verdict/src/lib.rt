@@ -103,7 +103,7 @@ pub fn judge_records(first: State, table: Table, records: &[u8]) -> Verdict
 }
 
 // The same with the table's entries beside it, from which limits are read by their numbers.
-fn judge_under(first: State, table: Table, limits: &[u16; 18], records: &[u8]) -> Verdict
+fn judge_under(first: State, table: Table, limits: &[u16; 22], records: &[u8]) -> Verdict
     requires { ⌜ now limits ≡ entries table ⌝ }
     ensures { λ r. ⌜ r ≡ ofRun (run table first (recordsIn (now (records .entry)))) ⌝ }
 {
@@ -141,7 +141,7 @@ fn judge_unlisted(state: State, unlisted: u8, records: &[u8]) -> Verdict
 
 // The same from a listed state, which every accepted record leads to another of. The last clock that a tick may reach is worked out
 // after the other steps: no tick moves it. Entering a phase moves the phase's end and its device limit, no other step does.
-fn judge_listed(begin: State, table: Table, limits: &[u16; 18], records: &[u8]) -> Verdict
+fn judge_listed(begin: State, table: Table, limits: &[u16; 22], records: &[u8]) -> Verdict
     requires { ⌜ (first (listed begin) ≡ 0) × (now limits ≡ entries table) ⌝ }
     ensures { λ r. ⌜ r ≡ ofRun (run table begin (recordsIn (now (records .entry)))) ⌝ }
 {

@@ -12,7 +12,7 @@ returns c =
     c .entry-at .ensures
     ∙ ap
     (entry (tableOf (c .before .before .before .args .entries .now)))
-    (c .before .device-entry .ensures ∙ ap (λ o. getD deviceEntries o 18) (c .before .before .order-of .ensures))
+    (c .before .device-entry .ensures ∙ ap (λ o. getD deviceEntries o 22) (c .before .before .order-of .ensures))
 
 pub device-limit-spec : {M : Type 1} → statement M
 device-limit-spec = tie.close (tie.spec (λ _ _. tt) (λ _ _. tt) (λ _ _. tt) returns)

@@ -15,7 +15,7 @@ returns : tie.Need-returns
 returns c =
     let a = c .before .before .before .before .before .before .before .args in
     let t = tableOf (a .entries .now) in
-    let number = c .before .before .before .phase-entry .ensures ∙ ap (λ o. getD phaseEntries o 18) (c .before .before .before .before .order-of .ensures) in
+    let number = c .before .before .before .phase-entry .ensures ∙ ap (λ o. getD phaseEntries o 22) (c .before .before .before .before .order-of .ensures) in
     let limit = c .before .before .entry-at .ensures ∙ ap (entry t) number in
     let shifting = sym (c .before .before .before .before .before .before .is-unfinished .ensures) ∙ c .before .before .before .before .before .if1 .taken in
     c .lesser .ensures

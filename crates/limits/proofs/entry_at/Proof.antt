@@ -1,4 +1,4 @@
--- `entry_at` meets its contract: one of the eighteen, and past them there is none.
+-- `entry_at` meets its contract: one of the twenty-two, and past them there is none.
 -- Assumes nothing.
 use mathlib.Core.Path.{_≡_, refl, sym}
 use mathlib.Core.List.{List}
@@ -10,14 +10,14 @@ use Rattle.limits.specs.Limits.{entries, entry, tableOf}
 use Rattle.limits.proofs.entry_at.Statement.{statement}
 use Rattle.limits.proofs.entry_at.Tie as tie
 
-of-eighteen : (es : List ℕ) (n : ℕ) → n < 18 → getD es n 0 ≡ entry (tableOf es) n
-of-eighteen es =
+of-twenty-two : (es : List ℕ) (n : ℕ) → n < 22 → getD es n 0 ≡ entry (tableOf es) n
+of-twenty-two es =
     below
     (λ k. getD es k 0 ≡ entry (tableOf es) k)
-    18
-    ((((((((((((((((((tt, refl), refl), refl), refl), refl), refl), refl), refl), refl), refl), refl), refl), refl), refl), refl), refl), refl), refl)
+    22
+    ((((((((((((((((((((((tt, refl), refl), refl), refl), refl), refl), refl), refl), refl), refl), refl), refl), refl), refl), refl), refl), refl), refl), refl), refl), refl), refl)
 
-none-past : (es : List ℕ) (n : ℕ) → 18 ≤ n → 0 ≡ entry (tableOf es) n
+none-past : (es : List ℕ) (n : ℕ) → 22 ≤ n → 0 ≡ entry (tableOf es) n
 none-past es n h = sym (List·getD-eq-default (entries (tableOf es)) 0 {n = n} h)
 
 pub entry-at-spec : {M : Type 1} → statement M
@@ -26,5 +26,5 @@ entry-at-spec =
     (tie.spec
     (λ c. search needs)
     (λ c. search needs)
-    (λ c. of-eighteen (c .before .before .args .entries .now) (c .before .before .args .number) (c .before .if1 .taken))
+    (λ c. of-twenty-two (c .before .before .args .entries .now) (c .before .before .args .number) (c .before .if1 .taken))
     (λ c. none-past (c .before .args .entries .now) (c .before .args .number) (c .if1 .left)))

@@ -18,4 +18,4 @@ device-entry-spec =
     (λ c. rw (c .match .keys5))
     (λ c. rw (c .match .keys6))
     (λ c. rw (c .match .keys7))
-    (λ c. let order = c .before .args .order in sym (List·getD-eq-default deviceEntries 18 {n = order} (past-arms 7 order (c .match .rest)))))
+    (λ c. let order = c .before .args .order in sym (List·getD-eq-default deviceEntries 22 {n = order} (past-arms 7 order (c .match .rest)))))

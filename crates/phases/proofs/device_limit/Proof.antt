@@ -13,7 +13,7 @@ returns c =
     let order = c .before .before .before .before .args .order in
     c .entry-at .ensures
     ∙ ap (entry (tableOf (entries .result))) (c .before .device-entry .ensures)
-    ∙ ap (λ es. entry (tableOf es) (getD deviceEntries order 18)) (entries .ensures)
+    ∙ ap (λ es. entry (tableOf es) (getD deviceEntries order 22)) (entries .ensures)
 
 pub device-limit-spec : {M : Type 1} → statement M
 device-limit-spec = tie.close (tie.spec (λ _ _. tt) (λ _ _. tt) (λ _ _. tt) returns)

@@ -13,7 +13,7 @@ returns c =
     let order = c .before .before .before .before .args .order in
     c .entry-at .ensures
     ∙ ap (entry (tableOf (entries .result))) (c .before .phase-entry .ensures)
-    ∙ ap (λ es. entry (tableOf es) (getD phaseEntries order 18)) (entries .ensures)
+    ∙ ap (λ es. entry (tableOf es) (getD phaseEntries order 22)) (entries .ensures)
 
 pub phase-limit-spec : {M : Type 1} → statement M
 phase-limit-spec = tie.close (tie.spec (λ _ _. tt) (λ _ _. tt) (λ _ _. tt) returns)

@@ -1,8 +1,8 @@
 -- `Table::is_set` meets its contract: entry after entry.
 -- Assumes nothing.
-use Rattle.limits.proofs.RuleLaws.{entries-tested}
+use Rattle.limits.proofs.RuleLaws.{limits-tested}
 use Rattle.limits.proofs.Table.is_set.Statement.{statement}
 use Rattle.limits.proofs.Table.is_set.Tie as tie
 
 pub is-set-spec : {M : Type 1} → statement M
-is-set-spec = tie.close (tie.spec (λ c. rw (← entries-tested)))
+is-set-spec = tie.close (tie.spec (λ c. rw (← limits-tested)))

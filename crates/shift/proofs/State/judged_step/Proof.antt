@@ -5,7 +5,7 @@ use native.Mathlib.Omega.{arith}
 use Rattle.shift.specs.declared.State.{State}
 use Rattle.shift.specs.declared.Reading.the-variants.{Means}
 use Rattle.shift.specs.Steps.{effect}
-use Rattle.shift.specs.Excess.{excessBy}
+use Rattle.shift.specs.Excess.{earlyBound, excessBy}
 use Rattle.shift.specs.Answers.{excess, answer, answerTo}
 use Rattle.shift.proofs.AnswerLaws.{refuses, accepts, in-clock}
 use Rattle.shift.proofs.State.judged_step.Statement.{statement}
@@ -17,7 +17,8 @@ returns c =
     let number = c .before .before .before .before .guard in
     let over = c .before .excess in
     let is-over : over .result ≡ excess (a .table) (a .self) (Means (a .x)) (number .result) =
-    over .ensures ∙ ap (λ now. excessBy (a .table) (a .self) now (number .result)) (c .before .before .clock-after .ensures)
+    over .ensures
+    ∙ ap (λ now. excessBy (a .table) (a .self) (earlyBound (a .table) (a .self) (a .x)) now (number .result)) (c .before .before .clock-after .ensures)
     in
     c .refused .ensures
     ∙ refuses (number .result) (over .result) (effect (a .self) (a .x)) (a .self) (c .before .before .before .if1 .taken)

@@ -9,10 +9,11 @@ use Rattle.checks.proofs.Tests.{tests, eq→eqb, ne→neqb}
 use Rattle.checks.proofs.Checks.{refused, holds→first}
 use Rattle.limits.specs.Rules.{brokenRule}
 use Rattle.stepfile.specs.declared.write.Wrong.{Wrong}
-use Rattle.stepfile.specs.Writing.{wished, fileOf, sizeOf, writable, refusedWith}
+use Rattle.stepfile.specs.Files.{mostRecords}
+use Rattle.stepfile.specs.Writing.{wished, entriesOf, fileOf, sizeOf, writable, refusedWith}
+use Rattle.stepfile.proofs.EntryLaws.{no-more-than-22, most-between}
 use Rattle.stepfile.proofs.WritingLaws.{size}
 use Rattle.numbers.proofs.StoreLaws.{at-start}
-use Rattle.stepfile.proofs.StoreLaws.{few}
 use Rattle.stepfile.proofs.WriteLaws.{at-lists, at-record, at-room, written, amounts-small}
 use Rattle.stepfile.proofs.write.write.Statement.{statement}
 use Rattle.stepfile.proofs.write.write.Tie as tie
@@ -26,60 +27,97 @@ returns c =
 
 returns-2 : tie.Need-returns-2
 returns-2 c =
-    let a = c .before .before .before .before .before .before .args in
+    let w = c .before .before in
+    let a = w .before .before .before .before .before .before .args in
+    let m = w .most-records .ensures ∙ ap mostRecords (w .before .entries .ensures) in
     let n = refused (writable (a .wish) (a .codes .now) (a .amounts .now)) 1 (omega (arith, tests)) in
     let k = at-lists (a .wish) (a .codes .now) (a .amounts .now) (a .out .now) 2 n (λ q. omega arith) in
     (c .refuse2 .ensures ∙ k .0, k .1)
 
 returns-3 : tie.Need-returns-3
 returns-3 c =
-    let a = c .before .before .before .before .before .before .before .before .before .args in
+    let w = c .before .before .before .before .before in
+    let a = w .before .before .before .before .before .before .args in
+    let m = w .most-records .ensures ∙ ap mostRecords (w .before .entries .ensures) in
     let r = c .before .before .broken-rule .ensures ∙ ap brokenRule (c .before .before .before .table .ensures) in
     let n = refused (writable (a .wish) (a .codes .now) (a .amounts .now)) 2
     (omega (arith, tests), (omega (arith, tests), ne→neqb (brokenRule (wished (a .wish))) 0 (λ z. c .before .if3 .taken (r ∙ z)))) in
     let k = at-lists (a .wish) (a .codes .now) (a .amounts .now) (a .out .now) 4 n (λ q. omega arith) in
     (c .refuse3 .ensures ∙ ap (λ x. refusedWith 4 x 0) r ∙ k .0, k .1)
 
+-- from here on `x` is where the records were looked at: the table, the record maximum and the arguments stand before it
 returns-4 : tie.Need-returns-4
 returns-4 c =
-    let a = c .before .before .before .before .before .before .before .before .before .before .before .args in
-    let r = c .before .before .before .before .broken-rule .ensures ∙ ap brokenRule (c .before .before .before .before .before .table .ensures) in
+    let x = c .before in
+    let w = x .before .before .before .before .before .before in
+    let a = w .before .before .before .before .before .before .args in
+    let m = w .most-records .ensures ∙ ap mostRecords (w .before .entries .ensures) in
+    let r = x .before .before .before .broken-rule .ensures ∙ ap brokenRule (x .before .before .before .before .table .ensures) in
     let n = holds→first (writable (a .wish) (a .codes .now) (a .amounts .now))
-    (omega (arith, tests), (omega (arith, tests), (eq→eqb (brokenRule (wished (a .wish))) 0 (sym r ∙ c .before .before .before .if3 .left), tt))) in
-    let x = c .before .before .first-wrong .ensures in
-    let k = at-record (a .wish) (a .codes .now) (a .amounts .now) (a .out .now) n (λ z. c .before .if4 .taken (ap (λ (q : Wrong). q .number) x ∙ z)) in
-    (c .refuse4 .ensures ∙ ap (λ (q : Wrong). refusedWith (q .number) 0 (q .index)) x ∙ k .0, k .1)
+    (omega (arith, tests), (omega (arith, tests), (eq→eqb (brokenRule (wished (a .wish))) 0 (sym r ∙ x .before .before .if3 .left), tt))) in
+    let wrong = x .before .first-wrong .ensures in
+    let k = at-record (a .wish) (a .codes .now) (a .amounts .now) (a .out .now) n (λ z. x .if4 .taken (ap (λ (q : Wrong). q .number) wrong ∙ z)) in
+    (c .refuse4 .ensures ∙ ap (λ (q : Wrong). refusedWith (q .number) 0 (q .index)) wrong ∙ k .0, k .1)
 
 returns-5 : tie.Need-returns-5
 returns-5 c =
-    let a = c .before .before .before .before .before .before .before .before .before .before .before .before .before .args in
-    let r = c .before .before .before .before .before .before .broken-rule .ensures ∙ ap brokenRule (c .before .before .before .before .before .before .before .table .ensures) in
+    let x = c .before .before in
+    let w = x .before .before .before .before .before .before in
+    let a = w .before .before .before .before .before .before .args in
+    let m = w .most-records .ensures ∙ ap mostRecords (w .before .entries .ensures) in
+    let r = x .before .before .before .broken-rule .ensures ∙ ap brokenRule (x .before .before .before .before .table .ensures) in
     let n = holds→first (writable (a .wish) (a .codes .now) (a .amounts .now))
-    (omega (arith, tests), (omega (arith, tests), (eq→eqb (brokenRule (wished (a .wish))) 0 (sym r ∙ c .before .before .before .before .before .if3 .left), tt))) in
-    let z = sym (ap (λ (q : Wrong). q .number) (c .before .before .before .before .first-wrong .ensures)) ∙ c .before .before .before .if4 .left in
+    (omega (arith, tests), (omega (arith, tests), (eq→eqb (brokenRule (wished (a .wish))) 0 (sym r ∙ x .before .before .if3 .left), tt))) in
+    let z = sym (ap (λ (q : Wrong). q .number) (x .before .first-wrong .ensures)) ∙ x .if4 .left in
     let k = at-room (a .wish) (a .codes .now) (a .amounts .now) (a .out .now) n z (omega arith) in
     (c .refuse5 .ensures ∙ k .0, k .1)
 
 put-file-requires : tie.Need-put-file-requires
 put-file-requires c κs =
-    let a = c .before .before .before .before .before .before .before .before .before .before .before .before .before .args in
-    let z = sym (ap (λ (q : Wrong). q .number) (c .before .before .before .before .first-wrong .ensures)) ∙ c .before .before .before .if4 .left in
-    (omega arith, (omega arith, amounts-small 0 (a .codes .now) (a .amounts .now) (omega arith) z))
+    let x = c .before .before in
+    let w = x .before .before .before .before .before .before in
+    let a = w .before .before .before .before .before .before .args in
+    let z = sym (ap (λ (q : Wrong). q .number) (x .before .first-wrong .ensures)) ∙ x .if4 .left in (
+      omega (arith, most-between (w .before .entries .result)),
+      (omega arith, amounts-small 0 (a .codes .now) (a .amounts .now) (omega arith) z),
+    )
 
 returns-6 : tie.Need-returns-6
 returns-6 c =
-    let a = c .before .before .before .before .before .before .before .before .before .before .before .before .before .before .before .before .args in
-    let r = c .before .before .before .before .before .before .before .before .before .broken-rule .ensures ∙ ap brokenRule (c .before .before .before .before .before .before .before .before .before .before .table .ensures) in
+    let x = c .before .before .before .before .before in
+    let w = x .before .before .before .before .before .before in
+    let a = w .before .before .before .before .before .before .args in
+    let m = w .most-records .ensures ∙ ap mostRecords (w .before .entries .ensures) in
+    let r = x .before .before .before .broken-rule .ensures ∙ ap brokenRule (x .before .before .before .before .table .ensures) in
     let n = holds→first (writable (a .wish) (a .codes .now) (a .amounts .now))
-    (omega (arith, tests), (omega (arith, tests), (eq→eqb (brokenRule (wished (a .wish))) 0 (sym r ∙ c .before .before .before .before .before .before .before .before .if3 .left), tt))) in
-    let z = sym (ap (λ (q : Wrong). q .number) (c .before .before .before .before .before .before .before .first-wrong .ensures)) ∙ c .before .before .before .before .before .before .if4 .left in
+    (omega (arith, tests), (omega (arith, tests), (eq→eqb (brokenRule (wished (a .wish))) 0 (sym r ∙ x .before .before .if3 .left), tt))) in
+    let z = sym (ap (λ (q : Wrong). q .number) (x .before .first-wrong .ensures)) ∙ x .if4 .left in
     let room : sizeOf (a .wish) (a .codes .now) ≤ length (a .out .now) = omega arith in
     let k = written (a .wish) (a .codes .now) (a .amounts .now) (a .out .now) n z room in
     let file = fileOf (a .wish) (a .codes .now) (a .amounts .now) in
-    let long = size (a .wish) (a .codes .now) (a .amounts .now) (omega arith) in (
+    let long = size (entriesOf (a .wish)) (a .codes .now) (a .amounts .now) (omega arith) in (
       ap (λ m. record { number = 0; rule = 0; index = 0; length = m }) (omega arith) ∙ k .0,
       c .before .before .put-file .ensures ∙ at-start (a .out .now) file (sizeOf (a .wish) (a .codes .now)) long room ∙ k .1,
     )
+
+-- the size, of few entries and few records
+mul-size : tie.Need-mul-size
+mul-size c =
+    let w = c .before .before .before .before .before .before in
+    omega (arith, no-more-than-22 (w .before .before .before .before .before .before .args .wish))
+
+add-size : tie.Need-add-size
+add-size c =
+    let w = c .before .before .before .before .before .before in
+    omega (arith, no-more-than-22 (w .before .before .before .before .before .before .args .wish))
+
+mul-size-2 : tie.Need-mul-size-2
+mul-size-2 c = omega (arith, most-between (c .before .before .before .before .before .before .before .entries .result))
+
+add-size-2 : tie.Need-add-size-2
+add-size-2 c =
+    let w = c .before .before .before .before .before .before in
+    omega (arith, no-more-than-22 (w .before .before .before .before .before .before .args .wish), most-between (w .before .entries .result))
 
 pub write-spec : {M : Type 1} → statement M
 write-spec =
@@ -87,6 +125,8 @@ write-spec =
     (tie.spec
     (λ _ _. tt)
     returns
+    (λ _ _. tt)
+    (λ _ _. tt)
     (λ _ _. tt)
     returns-2
     (λ _ _. tt)
@@ -96,11 +136,10 @@ write-spec =
     (λ _ _. tt)
     (λ _ _. tt)
     returns-4
-    (λ _ _. tt)
-    (λ c. omega (arith, few (c .before .before .before .before .before .before .before .before .before .before .before .args .wish)))
-    (λ c. omega (arith, few (c .before .before .before .before .before .before .before .before .before .before .before .args .wish)))
-    (λ c. omega (arith, few (c .before .before .before .before .before .before .before .before .before .before .before .args .wish)))
-    (λ c. omega (arith, few (c .before .before .before .before .before .before .before .before .before .before .before .args .wish)))
+    mul-size
+    add-size
+    mul-size-2
+    add-size-2
     (λ _ _. tt)
     returns-5
     put-file-requires

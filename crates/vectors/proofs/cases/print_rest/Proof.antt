@@ -8,8 +8,8 @@ use Rattle.checks.proofs.Tests.{left, right}
 use Rattle.vectors.proofs.cases.print_rest.Statement.{statement}
 use Rattle.vectors.proofs.cases.print_rest.Tie as tie
 
-amounts : (a : ℕ) → T (leb 37 a && leb a 66000 && eqb (a % 4) 1) → a ≤ 66000
-amounts a t = leb→le a 66000 (right (leb 37 a) (leb a 66000) (left (leb 37 a && leb a 66000) (eqb (a % 4) 1) t))
+amounts : (a : ℕ) → T (leb 45 a && leb a 66000 && eqb (a % 4) 1) → a ≤ 66000
+amounts a t = leb→le a 66000 (right (leb 45 a) (leb a 66000) (left (leb 45 a && leb a 66000) (eqb (a % 4) 1) t))
 
 write-requires : tie.Need-write-requires
 write-requires c κs = amounts _ (rw (c .before .match .keys8) at (c .before .before .before .before .before .pre))

@@ -16,13 +16,13 @@ use Rattle.vectors.proofs.fields.entries_at.Tie as tie
 
 abbrev Inv-loop : tie.InvT-loop
 Inv-loop bytes at entries₀ from₀ i₀ entries from i =
-    (i ≤ 18)
+    (i ≤ 22)
     × (from ≡ at + 2 * i)
-    × (length entries ≡ 18)
-    × (u16sAt bytes at 18 ≡ sets entries i (numbersAt (u16At bytes) 2 from (18 - i)))
+    × (length entries ≡ 22)
+    × (u16sAt bytes at 22 ≡ sets entries i (numbersAt (u16At bytes) 2 from (22 - i)))
 
 abbrev μ-loop : tie.MeasureT-loop
-μ-loop bytes at entries₀ from₀ i₀ entries from i = 18 - i
+μ-loop bytes at entries₀ from₀ i₀ entries from i = 22 - i
 
 loop-again : tie.Need-loop-again Inv-loop μ-loop
 loop-again c =
@@ -31,17 +31,17 @@ loop-again c =
       omega arith,
       omega arith,
       simp length-set (l .inv .2),
-      l .inv .3 ∙ stored (u16At bytes) 2 (l .from) 18 (l .i) (l .entries) (c .before .loop-test .taken) ∙ rw (c .u16-at .ensures),
+      l .inv .3 ∙ stored (u16At bytes) 2 (l .from) 22 (l .i) (l .entries) (c .before .loop-test .taken) ∙ rw (c .u16-at .ensures),
     )
 
 returns : tie.Need-returns Inv-loop μ-loop
-returns c = let a = c .before .before .args in no-u16s (a .bytes .now) (a .at) 18 (c .if1 .taken)
+returns c = let a = c .before .before .args in no-u16s (a .bytes .now) (a .at) 22 (c .if1 .taken)
 
 returns-2 : tie.Need-returns-2 Inv-loop μ-loop
 returns-2 c =
     let l = c .before .loop in
     let bytes = c .before .before .before .before .args .bytes .now in
-    sym (l .inv .3 ∙ all-stored (u16At bytes) 2 (l .from) 18 (l .i) (l .entries) (c .loop-test .left))
+    sym (l .inv .3 ∙ all-stored (u16At bytes) 2 (l .from) 22 (l .i) (l .entries) (c .loop-test .left))
 
 pub entries-at-spec : {M : Type 1} → statement M
 entries-at-spec =

@@ -14,11 +14,11 @@ use Rattle.vectors.proofs.fields.read_amounts.Tie as tie
 
 abbrev Inv-loop : tie.InvT-loop
 Inv-loop bytes amounts₀ from₀ count₀ amounts from count =
-    let n = (length bytes - 37) / 4 in
-    (from ≡ 37 + 4 * count)
-    × (4 * count ≤ length bytes - 37)
+    let n = (length bytes - 45) / 4 in
+    (from ≡ 45 + 4 * count)
+    × (4 * count ≤ length bytes - 45)
     × (length amounts ≡ length amounts₀)
-    × (sets amounts₀ 0 (u32sAt bytes 37 n) ≡ sets amounts count (u32sAt bytes from (n - count)))
+    × (sets amounts₀ 0 (u32sAt bytes 45 n) ≡ sets amounts count (u32sAt bytes from (n - count)))
 
 abbrev μ-loop : tie.MeasureT-loop
 μ-loop bytes amounts₀ from₀ count₀ amounts from count = length bytes - from
@@ -31,7 +31,7 @@ loop-again c =
       omega arith,
       simp length-set (l .inv .2),
       l .inv .3
-          ∙ stored (u32At bytes) 4 (l .from) ((length bytes - 37) / 4) (l .count) (l .amounts) (omega arith)
+          ∙ stored (u32At bytes) 4 (l .from) ((length bytes - 45) / 4) (l .count) (l .amounts) (omega arith)
           ∙ rw (c .u32-at .ensures),
     )
 
@@ -39,7 +39,7 @@ returns : tie.Need-returns Inv-loop μ-loop
 returns c =
     let l = c .before .loop in
     let bytes = c .before .before .before .before .args .bytes .now in
-    let n = (length bytes - 37) / 4 in
+    let n = (length bytes - 45) / 4 in
     let all : l .count ≡ n = omega arith in
     let fits : l .count ≤ length (l .amounts) = omega arith in (
       (fits, sym (length-take-le (l .count) (l .amounts) fits)),

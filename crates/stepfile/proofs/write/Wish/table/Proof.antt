@@ -12,4 +12,4 @@ table-spec =
     (λ c. search needs)
     (λ _ _. tt)
     (λ c. rw (c .before .self .given .1))
-    (λ c. search needs))
+    (λ c. rw (c .before .enum-told .given .1) (c .default .ensures)))
