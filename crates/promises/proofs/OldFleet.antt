@@ -176,8 +176,8 @@ module _ (t : Table) (z : NoDelays t) (s : State) where
     pub now : guard t s r ≡ 9
     pub by : excess t s r 9 ≡ s .«stage_time» - s .clock
 
-  late : (own : List Check) (bound : ℕ) → bound ≡ s .«stage_time» → Holds own → OpenOrClose s → s .clock < s .«stage_time» → first (own ++ inReportTime s bound) ≡ 9
-  late own bound e h o l =
+  refused-so : (own : List Check) (bound : ℕ) → bound ≡ s .«stage_time» → Holds own → OpenOrClose s → s .clock < s .«stage_time» → first (own ++ inReportTime s bound) ≡ 9
+  refused-so own bound e h o l =
       let c = passed (clutchOrder (s .phase)) (open-or-close-of (s .phase) o .0) in
       first-right own (inReportTime s bound) h ∙ rw (c, lt-leb bound (s .clock) (omega arith))
 
@@ -189,7 +189,7 @@ module _ (t : Table) (z : NoDelays t) (s : State) where
         let h : Holds own = omega (arith, tests) in
         record {
           before = holds→first own h;
-          now = late own (goodBound t s) (good-bound t z s) h o ahead;
+          now = refused-so own (goodBound t s) (good-bound t z s) h o ahead;
           by = ap (λ b. b - s .clock) (good-bound t z s);
         }
 
@@ -201,7 +201,7 @@ module _ (t : Table) (z : NoDelays t) (s : State) where
         let h : Holds own = omega (arith, tests) in
         record {
           before = holds→first own h;
-          now = late own (failedBound t s) (failed-bound t z s) h o ahead;
+          now = refused-so own (failedBound t s) (failed-bound t z s) h o ahead;
           by = ap (λ b. b - s .clock) (failed-bound t z s);
         }
 

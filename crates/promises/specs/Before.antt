@@ -1,5 +1,6 @@
 -- The rules before request 2, for the statement alone that old and new agree. Then, entering 22 made the box in gear, or neutral from
--- phases 19 and 21, and nothing else moved it; reset was no step.
+-- phases 19 and 21, and nothing else moved it; reset was no step. When the other steps are allowed is as today; OldFleet.antt has how that
+-- was before request 6.
 -- Assumes nothing.
 use mathlib.Core.Bool.{cond, not, _&&_, _||_}
 use mathlib.Core.Path.{_≡_}
