@@ -1,16 +1,15 @@
 -- Demand 3, first half, of the manual's engine: what it accepts under one table it accepts under any that is nowhere tighter, and its
 -- variables then read as the same state.
 -- Assumes nothing.
-use mathlib.Core.Path.{_≡_, sym, ap, subst, _∙_}
+use mathlib.Core.Path.{_≡_, sym, subst, _∙_}
 use mathlib.Core.List.{List}
-use Prim.Native.Nat.{ℕ}
 use Rattle.limits.specs.declared.Table.{Table}
 use Rattle.limits.specs.Rules.{brokenRule}
 use Rattle.limits.specs.Tighter.{NowhereTighter}
 use Rattle.shift.specs.declared.State.{State}
 use Rattle.shift.specs.declared.Reading.{Reading}
 use Rattle.shift.specs.States.{start}
-use Rattle.shift.specs.Runs.{Outcome, run}
+use Rattle.shift.specs.Runs.{run}
 use Rattle.promises.proofs.Promises.{accepted-by-a-looser-table}
 use Rattle.manual.specs.Runs as manual
 use Rattle.manual.specs.Variables.{initialisation}
