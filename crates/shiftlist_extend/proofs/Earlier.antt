@@ -20,7 +20,6 @@ use Rattle.shift.specs.declared.Reading.{Reading}
 use Rattle.shift.specs.Answers.{led}
 use Rattle.stepfile.specs.Records.{recordsIn}
 use Rattle.verdict.specs.declared.Verdict.{Verdict}
-use Rattle.verdict.specs.Verdicts.{verdictOf}
 use Rattle.shiftlist.specs.declared.Shift.{Shift}
 use Rattle.shiftlist.specs.declared.Listed.{Listed}
 use Rattle.shiftlist.specs.Shifts.{endOf, grown, unlessEnded, whole, shiftsFrom}
