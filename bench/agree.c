@@ -220,14 +220,14 @@ static unsigned compare_made(void)
     return differ;
 }
 
-/* With no entries, with eighteen, and with twenty-two that have no delays and that have some. */
+/* With no entries, with eighteen, and with twenty-two that have no delays and that have some; the limits are the old default's. */
 static unsigned compare_longest(void)
 {
     uint16_t table[ENTRIES];
     unsigned differ = 0;
     for (uint16_t count = MUNASIREL_MOST_RECORDS_22 - 1; count <= MUNASIREL_MOST_RECORDS + 1; count++)
         for (int i = 0; i < 4; i++) {
-            memcpy(table, default_table, sizeof table);
+            memcpy(table, old_default, sizeof table);
             if (i == 3)
                 make_delays(table);
             make_ticks(table, i == 0 ? 0 : i == 1 ? LIMITS : ENTRIES, count);

@@ -105,14 +105,15 @@ static void put_head(const uint16_t table[ENTRIES], uint16_t entries, uint16_t c
     file_length = 12 + 2 * (size_t)entries + 4 * (size_t)count;
 }
 
-/* A file of steps that, but for a few, are allowed one after the other. */
+/* A file of steps that, but for a few, are allowed one after the other, under a table made by chance or, without one, under the old
+ * default. */
 static void make_file(void)
 {
     static const uint16_t numbers[] = {0, LIMITS, ENTRIES, ENTRIES};
     uint16_t table[ENTRIES], entries = numbers[below(4)], count = 0;
     munasirel_state state = {0};
     uint64_t excess;
-    memcpy(table, default_table, sizeof default_table);
+    memcpy(table, old_default, sizeof old_default);
     if (entries != 0)
         make_table(table);
     if (entries == LIMITS)

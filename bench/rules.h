@@ -18,7 +18,7 @@ static inline uint32_t u32_at(const uint8_t *bytes)
     return u16_at(bytes) | (uint32_t)u16_at(bytes + 2) << 16;
 }
 
-/* ---- the limit table: its entries, its default, its rules */
+/* ---- the limit table: its entries, the old default, its rules */
 enum {
     CHANNEL_DL,
     ENGINE_SYNC_DL,
@@ -46,8 +46,9 @@ enum {
     LIMITS = CLUTCH_OPEN_DE /* the entries before the delays */
 };
 
-static const uint16_t default_table[ENTRIES] = {5,   100, 200, 150, 150, 300, 200, 150, 250, 155, 255,
-                                                151, 251, 200, 350, 250, 200, 1500, 0, 0, 0, 0};
+/* Files without a table are judged under this. The new default is written out wherever it is meant. */
+static const uint16_t old_default[ENTRIES] = {5,   100, 200, 150, 150, 300, 200, 150, 250, 155, 255,
+                                              151, 251, 200, 350, 250, 200, 1500, 0, 0, 0, 0};
 
 static inline int is_set(const uint16_t table[ENTRIES])
 {
@@ -141,7 +142,7 @@ static inline void read_table(const uint8_t *file, uint16_t table[ENTRIES])
 {
     int entries = u16_at(file + 2);
     for (int i = 0; i < LIMITS; i++)
-        table[i] = entries == 0 ? default_table[i] : u16_at(file + 12 + 2 * i);
+        table[i] = entries == 0 ? old_default[i] : u16_at(file + 12 + 2 * i);
     for (int i = LIMITS; i < ENTRIES; i++)
         table[i] = entries == ENTRIES ? u16_at(file + 12 + 2 * i) : 0;
 }

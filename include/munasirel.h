@@ -109,7 +109,17 @@ enum { MUNASIREL_END_OPEN = 0, MUNASIREL_END_DONE = 1, MUNASIREL_END_ERROR = 2 }
  *   - It sets the four delays to 0 for clutch units as they were. The answers then are what they were, but for a clutch that is good
  *     or failed on a state whose stage time lies ahead of its clock: that is refused with 9. No list of records leads there.
  *   - Files of eighteen entries or none are read with four delays of 0, and a table with four delays of 0 is written as eighteen
- *     entries, as it was. A host that looks into files itself finds 22 entries where there are delays, and the records behind them. */
+ *     entries, as it was. A host that looks into files itself finds 22 entries where there are delays, and the records behind them.
+ *
+ * Two tables are defaults: the old default, munasirel_old_default, has a channel_dl of 5, and the new default, munasirel_new_default,
+ * has one of 10; all their other entries are the same. What changes for a host that was written when there was the old default alone:
+ *   - munasirel_write with the wish for no table writes out the new default, as eighteen entries. For n records that takes 48 + 4n
+ *     bytes, 36 more than it did, so that a buffer which just fitted gives 15 now. No file without a table is written any more.
+ *   - What such a file is read back with and judged under is the new default. That accepts every list of records that the old default
+ *     accepts, with the same end, which is proved; it also accepts some that the old default refuses.
+ *   - A host that wants a file judged under the old default hands over munasirel_old_default() with a with_table of 1.
+ *   - Files without a table are judged under the old default, as ever, and that is what munasirel_table gives of them.
+ *   - munasirel_house has a channel_dl of 10, as the new default has. */
 typedef struct munasirel_limits {
     uint16_t channel_dl;
     uint16_t engine_sync_dl;
@@ -199,14 +209,22 @@ munasirel_judged munasirel_verdict(const uint8_t *file, size_t file_length);
  * Returns 0 where the table is admitted, or the number of the first rule that it breaks, 1 to 16. */
 uint8_t munasirel_admit(munasirel_limits table);
 
+/* The old default, under which files without a table are judged for ever.
+ * Returns 5, 100, 200, 150, 150, 300, 200, 150, 250, 155, 255, 151, 251, 200, 350, 250, 200 and 1500, and four delays of 0. */
+munasirel_limits munasirel_old_default(void);
+
+/* The new default, which is handed out now: munasirel_write writes it out at the wish for no table.
+ * Returns the old default with a channel_dl of 10 instead of 5. */
+munasirel_limits munasirel_new_default(void);
+
 /* The house's limit table, for the clutch unit that reports open before its plates part.
- * Returns the default table with the delays 20, 60, 20 and 60. */
+ * Returns the new default with the delays 20, 60, 20 and 60. */
 munasirel_limits munasirel_house(void);
 
 /* The limit table of a step file.
  *   file, file_length   the file's bytes
- * Returns the entries where the header says 18 or 22 and they are there, with four delays of 0 behind eighteen; else the default
- * table, whose delays are 0 too. Whether the file is good is not looked at. With a length of 0 it is a way to get the default table. */
+ * Returns the entries where the header says 18 or 22 and they are there, with four delays of 0 behind eighteen; else the old default,
+ * also with a length of 0, where munasirel_old_default() says it by its name. Whether the file is good is not looked at. */
 munasirel_limits munasirel_table(const uint8_t *file, size_t file_length);
 
 /* Lays the line of a file's verdict into a buffer: the word accepted, refused or unread, then the records accepted, the number that
@@ -229,10 +247,12 @@ uint8_t munasirel_join(uint8_t *buffer, size_t buffer_length, size_t *held, size
 
 /* Writes a step file.
  *   table                     the table to write: as eighteen entries where its four delays are 0, else as twenty-two
- *   with_table                0 for a file without a table, to be judged under the default; then table is not looked at
+ *   with_table                0 for the wish for no table: the new default is written out as eighteen entries, and table is not
+ *                             looked at
  *   codes, codes_length       the steps' codes
  *   amounts, amounts_length   the steps' amounts; both lengths count elements
- *   out, out_length           where the file is written, at the start; the bytes after it stay as they are
+ *   out, out_length           where the file is written, at the start; the bytes after it stay as they are. A file of n records takes
+ *                             48 + 4n bytes, also with the wish for no table, and 56 + 4n with twenty-two entries
  *   length                    is set to the file's length, or to 0 where it is refused
  *   index                     is set to the index of the wrong record with 5 and 6, else to 0
  *   rule                      is set to the number of the broken rule with 4, else to 0

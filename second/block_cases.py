@@ -9,7 +9,7 @@ from records import (
     LISTED, UNLISTED, any_record, bad_records, good_amount, packed_pieces, packed_steps, unlisted_code, unlisted_codes,
 )
 from rules import (
-    AT_REST, DEFAULT, GOOD, NO_SUCH_CODE, NOT_ADMITTED, PHASES, REQUESTS, RESET, START, TAKE, TICK, TOO_LATE,
+    AT_REST, GOOD, NO_SUCH_CODE, NOT_ADMITTED, OLD_DEFAULT, PHASES, REQUESTS, RESET, START, TAKE, TICK, TOO_LATE,
     WRONG_AMOUNT, forbidden,
 )
 from search import first_found
@@ -111,7 +111,7 @@ def every_table(chance):
             rest = some_records(chance) if rule % 2 else b""
             rest += left_over(chance, rule % RECORD.size, chance.choice(LISTED))
             yield block_case(broken, free_state(chance), first, rest)
-        yield block_case(kept, START, any_walk(chance, DEFAULT)[:MOST_STEPS])
+        yield block_case(kept, START, any_walk(chance, OLD_DEFAULT)[:MOST_STEPS])
     for table, state in product((broken_table(chance), good_table(chance)), (START, free_state(chance))):
         for count in LEFT_OVER:
             yield block_case(table, state, left_over(chance, count, chance.choice(LISTED)))

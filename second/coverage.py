@@ -6,6 +6,7 @@ from typing import Dict, NamedTuple, Sequence, Set
 import extend_coverage
 import list_coverage
 import m9
+from default_coverage import DEFAULT_GRIDS, default_marks
 from delay_coverage import ANSWERS, DELAY_GRIDS, SIZES, delay_marks
 from files import NO_ROOM, RECORD, block, fours, judge, judged, line, read, record
 from places import HOW, PLACES, place_of
@@ -293,8 +294,9 @@ GRIDS = {
         STAGE_NAMES,
         {phase: reachable(phase) for phase in range(ERROR + 1)},
     ),
-    **{name: Grid(*grid) for grids in (list_coverage.LIST_GRIDS, extend_coverage.EXTEND_GRIDS, DELAY_GRIDS)
-       for name, grid in grids.items()},
+    **{name: Grid(*grid) for grids in (
+        list_coverage.LIST_GRIDS, extend_coverage.EXTEND_GRIDS, DELAY_GRIDS, DEFAULT_GRIDS,
+    ) for name, grid in grids.items()},
 }
 
 
@@ -578,7 +580,8 @@ MARKS = {
 
 def marks(worked):
     """What a case that is worked out covers, as cells: a grid's name, a row and a column."""
-    return {*MARKS[worked.name](worked.answer, *worked.parts), *delay_marks(worked.name, worked.answer, *worked.parts)}
+    name, parts, answer = worked
+    return {*MARKS[name](answer, *parts), *delay_marks(name, answer, *parts), *default_marks(name, answer, *parts)}
 
 
 def possible_cells():

@@ -143,6 +143,8 @@ def early_answers(chance):
 def as_function(chance, name, table, steps, more):
     """A walk and more steps as a case of this function; a block and an extension begin within the walk."""
     file, place = file_with(chance, table, steps, more), chance.randint(0, len(steps))
+    if name == "judge":
+        yield case_of("judge", file)
     if name == "line":
         yield line_case(chance, file, 0)
     if name == "list":

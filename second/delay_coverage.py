@@ -1,5 +1,6 @@
 """What a comparison covers of delays and of tables of 22 entries: grids, as a title, columns and rows, and marks."""
 
+from default_coverage import NO_ENTRIES, NONE_WISHED
 from files import (
     HEADER, MOST_RECORDS, MOST_WITH_DELAYS, RECORD, WITH_DELAYS, WITHOUT_DELAYS, WRONG_LENGTH, block, file_of, fours,
     header_of, judge, read, record, table_of,
@@ -27,8 +28,8 @@ CLUTCH_ANSWERS = tuple(f"{order.name} {code}" for order in ORDERS if order.delay
 SIZES = {"1": 1, "16 bits": 2**16 - 1, "32 bits": 2**32 - 1, "64 bits": 2**64 - 1}
 REFUSED_IN = "line", "block", "list", "extend"
 # What a file has for a table, and what is written of one.
-NO_TABLE, ZEROS, DELAYED, DELAYED_ZEROS = "no entries", "18 entries", "22 entries", "22 entries, four zeros"
-IN_FILES = NO_TABLE, ZEROS, DELAYED, DELAYED_ZEROS
+ZEROS, DELAYED, DELAYED_ZEROS = "18 entries", "22 entries", "22 entries, four zeros"
+IN_FILES = NO_ENTRIES, ZEROS, DELAYED, DELAYED_ZEROS
 NOT_ADMITTED = ", not admitted"
 BECAME = "read 0", "read 2", "read 3", "read 4", "judge 0", "judge refused", "list 0"
 EIGHT_SHORT = "eight short"
@@ -59,14 +60,18 @@ def without_delay(order):
 def counts_by_table():
     """The rows of a grid of tables and counts of records at the maxima: as read, written and extended."""
     bad = ZEROS + NOT_ADMITTED, DELAYED + NOT_ADMITTED
-    tables = {"read": IN_FILES, "write": (NO_TABLE, ZEROS, DELAYED, *bad), "extend": (ZEROS, DELAYED, *bad)}
-    most = {kind: MOST_WITH_DELAYS if kind.startswith(DELAYED) else MOST_RECORDS for kind in (*IN_FILES, *bad)}
-    return {f"{name}, {kind}": {most[kind], most[kind] + 1} for name, kinds in tables.items() for kind in kinds}
+    tables = {"read": IN_FILES, "write": (NONE_WISHED, ZEROS, DELAYED, *bad), "extend": (ZEROS, DELAYED, *bad)}
+    return {f"{name}, {kind}": {most_by(kind), most_by(kind) + 1} for name, kinds in tables.items() for kind in kinds}
+
+
+def most_by(kind):
+    """The most records beside a table of this kind."""
+    return MOST_WITH_DELAYS if kind.startswith(DELAYED) else MOST_RECORDS
 
 
 def read_numbers(kind):
     """The columns of what a file has for a table."""
-    return {*BECAME} - ({"read 4"} if kind == NO_TABLE else set())
+    return {*BECAME} - ({"read 4"} if kind == NO_ENTRIES else set())
 
 
 DELAY_GRIDS = {
@@ -105,7 +110,7 @@ DELAY_GRIDS = {
     "written": (
         "tables that were written: the room",
         (EXACT, ONE_SHORT, EIGHT_SHORT, LONGER),
-        {kind: {EXACT, ONE_SHORT, EIGHT_SHORT, LONGER} for kind in (NO_TABLE, ZEROS, DELAYED)},
+        {kind: {EXACT, ONE_SHORT, EIGHT_SHORT, LONGER} for kind in (ZEROS, DELAYED)},
     ),
     "under delays": (
         "functions under tables with delays",
@@ -189,7 +194,7 @@ def early_marks(name, number, table, state, records):
 
 def in_file(file):
     """What a file that has a header has for a table, or None."""
-    kind = {0: NO_TABLE, WITHOUT_DELAYS: ZEROS, WITH_DELAYS: DELAYED}.get(header_of(file).k)
+    kind = {0: NO_ENTRIES, WITHOUT_DELAYS: ZEROS, WITH_DELAYS: DELAYED}.get(header_of(file).k)
     return DELAYED_ZEROS if kind == DELAYED and not has_delays(table_of(file)) else kind
 
 
@@ -263,9 +268,9 @@ def manual_marks(answer, table, records):
 
 
 def kind_of(table, wish=1):
-    """What is written of a table, and whether it is admitted."""
+    """What is written of a table, and whether it is admitted; or that none is wished for."""
     if not wish:
-        return NO_TABLE
+        return NONE_WISHED
     return (DELAYED if has_delays(table) else ZEROS) + (NOT_ADMITTED if broken_rule(table) else "")
 
 
@@ -276,8 +281,8 @@ def write_marks(answer, wish, table, amounts, codes, buffer):
         yield from under_delays("write", table, number)
     if number != WRONG_LENGTH:
         yield from count_marks("write", kind, len(codes))
-    if number in (0, 15):
-        spare = len(buffer) - len(file_of(table if wish else None, bytes(RECORD.size * len(codes))))
+    if wish and number in (0, 15):
+        spare = len(buffer) - len(file_of(table, bytes(RECORD.size * len(codes))))
         how = {0: EXACT, -1: ONE_SHORT, -8: EIGHT_SHORT}.get(spare, LONGER if spare > 0 else None)
         if how:
             yield "written", kind, how

@@ -3,27 +3,28 @@
 from itertools import product
 
 from corpus import case_of
-from delay_coverage import DELAYED, DELAYED_ZEROS, IN_FILES, NO_TABLE, NOT_ADMITTED, ZEROS, counts_by_table
+from default_coverage import NO_ENTRIES
+from delay_coverage import DELAYED, DELAYED_ZEROS, IN_FILES, NOT_ADMITTED, ZEROS, counts_by_table
 from extensions import Given, extend_case
 from file_cases import all_three, line_case, with_header, wrong_headers, wrong_lengths
 from files import MOST_WITH_DELAYS, WITH_DELAYS, WITHOUT_DELAYS, file_with_entries
 from list_cases import list_case
 from records import packed_steps, tick_amount
-from rules import DEFAULT, DELAYS, LONGEST_TICK, START, TICK, has_delays
+from rules import DELAYS, LONGEST_TICK, OLD_DEFAULT, START, TICK
 from tables import RULES, admitted_table, any_table, delayed_table, edge_tables, good_table
 from walks import SHIFTS, any_walk, lead, mixed, timed
-from write_cases import A_TABLE, NO_BUFFER, NONE, lists, written
+from write_cases import A_TABLE, NO_BUFFER, lists, written
 
 # The number of entries of each file, by what it has for a table.
-ENTRIES = {NO_TABLE: 0, ZEROS: WITHOUT_DELAYS, DELAYED: WITH_DELAYS, DELAYED_ZEROS: WITH_DELAYS}
+ENTRIES = {NO_ENTRIES: 0, ZEROS: WITHOUT_DELAYS, DELAYED: WITH_DELAYS, DELAYED_ZEROS: WITH_DELAYS}
 # The rooms that a file mostly is given beside what it needs.
 SPARES = 0, -1, -8, 9
 
 
 def table_for(chance, kind):
     """An admitted table as a file of this kind has it."""
-    if kind == NO_TABLE:
-        return DEFAULT
+    if kind == NO_ENTRIES:
+        return OLD_DEFAULT
     return delayed_table(chance) if kind == DELAYED else admitted_table(chance)
 
 
@@ -51,7 +52,7 @@ def every_kind(chance):
             yield from all_three(chance, file)
             yield list_case(chance, file, 24)
         yield from all_three(chance, file_for(chance, kind, table))
-        if kind != NO_TABLE:
+        if kind != NO_ENTRIES:
             broken = broken_for(chance, kind)
             yield from all_three(chance, file_for(chance, kind, broken, steps))
             yield list_case(chance, file_for(chance, kind, broken, steps), 24)
@@ -62,14 +63,14 @@ def every_rule(chance):
     for rule in RULES:
         broken, kept, _ = edge_tables(chance, rule)
         for table in (broken, kept):
-            file = file_with_entries(WITH_DELAYS, table, packed_steps(any_walk(chance, DEFAULT)[:40]))
+            file = file_with_entries(WITH_DELAYS, table, packed_steps(any_walk(chance, OLD_DEFAULT)[:40]))
             yield chance.choice(list(all_three(chance, file)))
 
 
 def every_damage(chance):
     """Files of 22 entries with each byte and each field of their headers wrong, and of other lengths."""
     for kind in (DELAYED, DELAYED_ZEROS):
-        file = file_for(chance, kind, table_for(chance, kind), any_walk(chance, DEFAULT)[:40], [(TICK, 1)])
+        file = file_for(chance, kind, table_for(chance, kind), any_walk(chance, OLD_DEFAULT)[:40], [(TICK, 1)])
         for damaged in (*wrong_headers(chance, file), *wrong_lengths(chance, file)):
             yield chance.choice(list(all_three(chance, damaged)))
         for length in (47, 48, 49, 55, 56, 57):
@@ -109,27 +110,27 @@ def single_delays(chance):
 
 def every_writing(chance):
     """What is written of each kind of table, into buffers with exact room, one and eight bytes short, and longer."""
-    for kind, spare in product((NO_TABLE, ZEROS, DELAYED), SPARES):
-        yield writing(chance, kind, table_for(chance, kind), chance.randint(0, 9), spare)
+    for kind, spare in product((ZEROS, DELAYED), SPARES):
+        yield writing(chance, table_for(chance, kind), chance.randint(0, 9), spare)
     for table in single_delays(chance):
-        yield writing(chance, DELAYED, table, 3, 0)
+        yield writing(chance, table, 3, 0)
 
 
-def writing(chance, kind, table, count, spare):
+def writing(chance, table, count, spare):
     """The case of so many records that are written with a table."""
-    return written(chance, NONE if kind == NO_TABLE else A_TABLE, table, *lists(chance, count), spare)
+    return written(chance, A_TABLE, table, *lists(chance, count), spare)
 
 
 def most_written(chance):
     """Lists beside the maxima under tables with delays, admitted or not; what is refused has no buffer."""
     for count in counts_beside("write", DELAYED):
-        yield writing(chance, DELAYED, delayed_table(chance), count, 0 if count == MOST_WITH_DELAYS else NO_BUFFER)
+        yield writing(chance, delayed_table(chance), count, 0 if count == MOST_WITH_DELAYS else NO_BUFFER)
     for kind in (DELAYED, ZEROS):
         for count in counts_beside("write", kind + NOT_ADMITTED):
-            yield writing(chance, kind, broken_for(chance, kind), count, NO_BUFFER)
+            yield writing(chance, broken_for(chance, kind), count, NO_BUFFER)
     first, *_, last = single_delays(chance)
     for table in (first, last):
-        yield writing(chance, DELAYED, table, MOST_WITH_DELAYS + 1, NO_BUFFER)
+        yield writing(chance, table, MOST_WITH_DELAYS + 1, NO_BUFFER)
 
 
 def most_extended(chance):
@@ -156,9 +157,8 @@ def demanded(chance):
 def draw(chance):
     """A file of 22 entries and a list to be written, by chance."""
     table = good_table(chance) if chance.random() < 0.7 else any_table(chance)
-    file = file_with_entries(WITH_DELAYS, table, packed_steps(any_walk(chance, DEFAULT)))
+    file = file_with_entries(WITH_DELAYS, table, packed_steps(any_walk(chance, OLD_DEFAULT)))
     if chance.random() < 0.2:
         file = chance.choice([*wrong_headers(chance, file), *wrong_lengths(chance, file)])
     yield chance.choice(list(all_three(chance, file)))
-    kind = DELAYED if has_delays(table) else ZEROS
-    yield writing(chance, kind, table, chance.randint(0, 9), chance.choice(SPARES))
+    yield writing(chance, table, chance.randint(0, 9), chance.choice(SPARES))

@@ -8,9 +8,9 @@ from files import MOST_RECORDS
 from list_cases import shifts_in_a_row, there_and_back
 from records import LISTED, UNLISTED, packed_steps
 from rules import (
-    ALLOWED, ASK_CLUTCH, AT_REST, DEFAULT, DELIVER, DEVICE_FAILED, DONE, ENGINE_PHASES, ENGINE_WAITS, ERROR, FAILED,
-    FINISH, FROM_NEUTRAL, GEAR_TO_GEAR, GOOD, LAST_CLOCK, LONGEST_TICK, RAISE_ERROR, REQUESTS, RESET, SENT, START, TAKE,
-    TICK, WAITING, WORKING, State,
+    ALLOWED, ASK_CLUTCH, AT_REST, DELIVER, DEVICE_FAILED, DONE, ENGINE_PHASES, ENGINE_WAITS, ERROR, FAILED, FINISH,
+    FROM_NEUTRAL, GEAR_TO_GEAR, GOOD, LAST_CLOCK, LONGEST_TICK, OLD_DEFAULT, RAISE_ERROR, REQUESTS, RESET, SENT, START,
+    TAKE, TICK, WAITING, WORKING, State,
 )
 from shifts import ENTRY, entries_of
 from step_cases import accepted_step, free_state
@@ -76,8 +76,8 @@ def every_new_shift(chance):
 def every_loose_tick(chance):
     """Ticks that belong to no shift: before all, in done and error, and behind them, before and behind a cut."""
     for ticks, (begin, end) in product(([(TICK, 5)], [(TICK, LONGEST_TICK), (TICK, 1)]), ((0, 0), (0, 2), (1, 3))):
-        steps = ticks + timed(DEFAULT, FINISHED[FROM_NEUTRAL][0], min)
-        yield extend_case(chance, cut_walk(DEFAULT, steps, min(begin, len(ticks)), end))
+        steps = ticks + timed(OLD_DEFAULT, FINISHED[FROM_NEUTRAL][0], min)
+        yield extend_case(chance, cut_walk(OLD_DEFAULT, steps, min(begin, len(ticks)), end))
     for request, to_done in product(REQUESTS, (False, True)):
         table, shift = good_table(chance), SHIFTS[request][0][:-1] if to_done else SHIFTS[request][-1]
         steps = timed(table, lead(chance, request) + shift, mixed(chance)) + [(TICK, 3), (TICK, 4)]
@@ -96,7 +96,7 @@ def every_room(chance):
         if count or spare >= 0:
             yield extend_case(chance, given, spare)
     for spare in (0, 9):
-        yield extend_case(chance, cut_walk(DEFAULT, [], 0), spare)
+        yield extend_case(chance, cut_walk(OLD_DEFAULT, [], 0), spare)
 
 
 def every_left_over(chance):
@@ -143,13 +143,13 @@ def every_foreign_entry(chance):
     for (stage, steps), (field, values) in product(ways, odd.items()):
         for value in values:
             state = in_shift(stage, chance.randint(0, 9))
-            yield extend_case(chance, on_state(chance, DEFAULT, state, packed_steps(steps), **{field: value}))
+            yield extend_case(chance, on_state(chance, OLD_DEFAULT, state, packed_steps(steps), **{field: value}))
     for stage, steps in ways:
-        given = on_state(chance, DEFAULT, in_shift(stage, 7), packed_steps(steps))
+        given = on_state(chance, OLD_DEFAULT, in_shift(stage, 7), packed_steps(steps))
         yield extend_case(chance, with_eighth_bytes(chance, given))
     for (field, values), steps in product({**odd, "end": (3, 255)}.items(), ([], [*tick, (FROM_NEUTRAL, 0)])):
         for value in values:
-            given = on_state(chance, DEFAULT, RESTING, packed_steps(steps), **{field: value})
+            given = on_state(chance, OLD_DEFAULT, RESTING, packed_steps(steps), **{field: value})
             yield extend_case(chance, chance.choice((given, with_eighth_bytes(chance, given))))
 
 
@@ -159,10 +159,10 @@ def every_asking(chance):
     for phase, kind, route in product(sorted(ENGINE_PHASES), REQUESTS, (0, 1, 7)):
         state = State(1_000, 1, phase, 0, WAITING, 0, chance.choice((0, 999, 1_000)))
         records = packed_steps(steps[:chance.randint(1, len(steps))])
-        yield extend_case(chance, on_state(chance, DEFAULT, state, records, kind=kind, route=route))
+        yield extend_case(chance, on_state(chance, OLD_DEFAULT, state, records, kind=kind, route=route))
     for kind, route in product(REQUESTS, (0, 1)):
         state, waits = State(9, 1, chance.choice(sorted(ENGINE_PHASES)), 0, WORKING), packed_steps([(ENGINE_WAITS, 0)])
-        yield extend_case(chance, on_state(chance, DEFAULT, state, waits, kind=kind, route=route))
+        yield extend_case(chance, on_state(chance, OLD_DEFAULT, state, waits, kind=kind, route=route))
 
 
 def every_kind_and_route(chance):
@@ -172,7 +172,7 @@ def every_kind_and_route(chance):
     ways = (SENT, []), (SENT, [(DELIVER, 0)]), (FAILED, error[:1]), (FAILED, error), (GOOD, done[:1]), (GOOD, done)
     for kind, route, (stage, steps) in product(REQUESTS, (0, 1), ways):
         state = in_shift(stage, chance.choice((0, 1, 300)))
-        yield extend_case(chance, on_state(chance, DEFAULT, state, packed_steps(steps), kind=kind, route=route))
+        yield extend_case(chance, on_state(chance, OLD_DEFAULT, state, packed_steps(steps), kind=kind, route=route))
 
 
 def every_clock(chance):
@@ -182,7 +182,7 @@ def every_clock(chance):
     for (clock, request_time), steps in product(clocks, ways):
         if clock + sum(amount for _, amount in steps) <= LAST_CLOCK:
             state = State(clock, 0, SETTING, clock, GOOD, clock, request_time)
-            yield extend_case(chance, on_state(chance, DEFAULT, state, packed_steps(steps)))
+            yield extend_case(chance, on_state(chance, OLD_DEFAULT, state, packed_steps(steps)))
 
 
 def every_count(chance):
@@ -190,30 +190,30 @@ def every_count(chance):
     counts = (16_371, 1), (16_372, 0), (16_370, 2), (16_360, 9), (255, 2), (256, 3), (4_096, 2), (1, 1)
     for (count, new), (state, code) in product(counts, ((RESTING, FROM_NEUTRAL), (in_shift(GOOD, 3), TAKE))):
         records = packed_steps([(code, 0), *[(TICK, 1)] * 9][:new]) + left_over(chance, chance.choice((0, 3)), TICK)
-        yield extend_case(chance, on_state(chance, DEFAULT, state, records, count))
+        yield extend_case(chance, on_state(chance, OLD_DEFAULT, state, records, count))
     ways = (RESTING, [(FROM_NEUTRAL, 0)]), (in_shift(FAILED, 3), [(RAISE_ERROR, 0), (RESET, 0), (FROM_NEUTRAL, 0)])
     for shifts, (state, steps) in product((254, 255, 256), ways):
-        given = on_state(chance, DEFAULT, state, packed_steps(steps), 9_000)
+        given = on_state(chance, OLD_DEFAULT, state, packed_steps(steps), 9_000)
         before = entries_of(any_shift(chance, 8_000) for _ in range(shifts - len(given.entries) // ENTRY.size))
         yield extend_case(chance, given._replace(entries=before + given.entries))
     for phase, count in product((AT_REST, DONE, ERROR, NO_PHASE), (0, 1, 77)):
         records = packed_steps([(TICK, 1)] if phase < NO_PHASE else [])
-        yield extend_case(chance, Given(DEFAULT, free_state(chance, phase=phase, clock=9), count, b"", records))
+        yield extend_case(chance, Given(OLD_DEFAULT, free_state(chance, phase=phase, clock=9), count, b"", records))
 
 
 def every_last_record(chance):
     """Ended entries whose last record is the last before the count, the one before that, or the first of all."""
     for phase, last in product((AT_REST, DONE, ERROR, NO_PHASE), (0, 40, 41)):
         state, records = free_state(chance, phase=phase, clock=9), packed_steps([(TICK, 1)] if phase < NO_PHASE else [])
-        yield extend_case(chance, on_state(chance, DEFAULT, state, records, 42, last=last, first=0))
+        yield extend_case(chance, on_state(chance, OLD_DEFAULT, state, records, 42, last=last, first=0))
 
 
 def longest(chance):
     """The most records at once, with many shifts behind an open one, and with one that is open behind many ticks."""
     steps = there_and_back() * (MOST_RECORDS // len(there_and_back()))
-    yield extend_case(chance, cut_walk(DEFAULT, steps, 3), 0)
+    yield extend_case(chance, cut_walk(OLD_DEFAULT, steps, 3), 0)
     steps = [(TICK, 7)] * (MOST_RECORDS - 3) + there_and_back()[:3]
-    yield extend_case(chance, Given(DEFAULT, START, 0, b"", packed_steps(steps)), 0)
+    yield extend_case(chance, Given(OLD_DEFAULT, START, 0, b"", packed_steps(steps)), 0)
 
 
 def demanded(chance):

@@ -3,10 +3,11 @@
 from buffers import NO_BUFFER, buffer_for, with_other_byte
 from corpus import LONGEST_FIELD, case_of
 from files import (
-    ENTRY_COUNTS, HEADER, MOST_RECORDS, RECORD, Header, file_of, header_of, line, most_records, record_offset,
+    ENTRY_COUNTS, HEADER, MOST_RECORDS, RECORD, Header, file_of, file_without_entries, header_of, line, most_records,
+    record_offset,
 )
-from records import LISTED, any_record, bad_records, packed_steps, tick_amount, unlisted_codes
-from rules import DEFAULT, FROM_NEUTRAL, LONGEST_TICK, RESET, TICK, forbidden, latest_clocks
+from records import LISTED, any_record, bad_records, packed_pieces, packed_steps, tick_amount, unlisted_codes
+from rules import FROM_NEUTRAL, LONGEST_TICK, OLD_DEFAULT, RESET, TICK, forbidden, latest_clocks
 from tables import RULES, admitted_table, any_table, broken_table, edge_tables, good_table
 from walks import (
     FINISHED, ROUNDS, SHIFTS, SLOW, any_walk, edges, lead, mixed, states, timed, walks_over, walks_through_errors,
@@ -14,9 +15,10 @@ from walks import (
 
 
 def file_with(chance, table, *pieces):
-    """The file of lists of steps and of record bytes; the default table is left out of it half the time."""
-    records = b"".join(piece if isinstance(piece, bytes) else packed_steps(piece) for piece in pieces)
-    return file_of(None if table == DEFAULT and chance.random() < 0.5 else table, records)
+    """The file of lists of steps and of record bytes; the old default is left out of it half the time."""
+    records = packed_pieces(*pieces)
+    left_out = table == OLD_DEFAULT and chance.random() < 0.5
+    return file_without_entries(records) if left_out else file_of(table, records)
 
 
 def line_case(chance, file, spare):
@@ -60,8 +62,8 @@ def every_shift(chance):
     for request, shift in [(request, shift) for request, shifts in ROUNDS.items() for shift in shifts]:
         codes = lead(chance, request) + shift
 
-        steps = timed(DEFAULT, codes, mixed(chance))
-        yield from every_other_beginning(chance, DEFAULT, steps, last_place(steps, request))
+        steps = timed(OLD_DEFAULT, codes, mixed(chance))
+        yield from every_other_beginning(chance, OLD_DEFAULT, steps, last_place(steps, request))
 
         tight = admitted_table(chance, tight=True)
         steps = timed(tight, codes, max)
@@ -153,8 +155,9 @@ def wrong_lengths(chance, file):
 
 def damaged_files(chance):
     """Files with each damage, of a table alone, with tables at the edge of each rule, and with several things wrong."""
-    for table in (None, admitted_table(chance)):
-        file = file_of(table, packed_steps(any_walk(chance, DEFAULT) + [(TICK, 1)]))
+    for entries in (False, True):
+        records = packed_steps(any_walk(chance, OLD_DEFAULT) + [(TICK, 1)])
+        file = file_of(admitted_table(chance), records) if entries else file_without_entries(records)
         yield from all_three(chance, file)
         for damaged in (*wrong_headers(chance, file), *wrong_lengths(chance, file)):
             yield from chance.sample(list(all_three(chance, damaged)), 2)
@@ -162,7 +165,7 @@ def damaged_files(chance):
         yield from all_three(chance, file_of(table, b""))
     for rule in RULES:
         for table in edge_tables(chance, rule):
-            yield from all_three(chance, file_with(chance, table, any_walk(chance, DEFAULT)))
+            yield from all_three(chance, file_with(chance, table, any_walk(chance, OLD_DEFAULT)))
     file = file_with(chance, broken_table(chance), bytes(4))
     for damaged in (file, file + b"\0", with_header(file + b"\0", n=MOST_RECORDS + 1), file[:11]):
         yield from all_three(chance, damaged)
@@ -171,7 +174,7 @@ def damaged_files(chance):
 def every_line(chance):
     """Lines of each word with exact room, one byte short, without a buffer and with room to spare."""
     ticks = [(TICK, LONGEST_TICK)] * 3
-    accepted, refused = file_with(chance, DEFAULT, ticks), file_with(chance, DEFAULT, ticks, bytes(4))
+    accepted, refused = file_with(chance, OLD_DEFAULT, ticks), file_with(chance, OLD_DEFAULT, ticks, bytes(4))
     unread = file_with(chance, broken_table(chance), ticks)
     for file in (accepted, refused, unread, unread[:-1], bytes(12), b""):
         for spare in (NO_BUFFER, -1, 0, 1, 40):
@@ -181,10 +184,10 @@ def every_line(chance):
 def lines_along_walks(chance):
     """Lines at every place of a walk for each request, or of a tick there that passes the limits, if there are any."""
     for request, shifts in ROUNDS.items():
-        steps = timed(DEFAULT, lead(chance, request) + chance.choice(shifts), max)
+        steps = timed(OLD_DEFAULT, lead(chance, request) + chance.choice(shifts), max)
         for end in range(len(steps) + 1):
             more = chance.choice(([], [(TICK, LONGEST_TICK)]))
-            yield line_case(chance, file_with(chance, DEFAULT, steps[:end], more), 0)
+            yield line_case(chance, file_with(chance, OLD_DEFAULT, steps[:end], more), 0)
 
 
 def every_excess(chance):
@@ -197,15 +200,15 @@ def every_excess(chance):
 
 def largest(chance):
     """The largest good files, those with their last record spoilt, and larger ones."""
-    shift = timed(DEFAULT, FINISHED[FROM_NEUTRAL][0], mixed(chance))
+    shift = timed(OLD_DEFAULT, FINISHED[FROM_NEUTRAL][0], mixed(chance))
     ticks = [(TICK, tick_amount(chance)) for _ in range(MOST_RECORDS - len(shift))]
-    yield case_of("judge", file_of(None, packed_steps(shift + ticks)))
+    yield case_of("judge", file_without_entries(packed_steps(shift + ticks)))
     full = file_of(admitted_table(chance), packed_steps([(TICK, LONGEST_TICK)] * MOST_RECORDS))
     yield case_of("read", full)
     yield line_case(chance, full, 0)
     for spoilt in (bytes(4), packed_steps([(TICK, 0)]), packed_steps([(FROM_NEUTRAL + 1, 0)])):
         yield case_of("judge", full[:-RECORD.size] + spoilt)
-    one_record_more = file_of(None, packed_steps([(TICK, 1)] * (MOST_RECORDS + 1)))
+    one_record_more = file_without_entries(packed_steps([(TICK, 1)] * (MOST_RECORDS + 1)))
     for larger in (full + b"\0", one_record_more, bytes(len(full) + 1)):
         yield case_of("judge", larger)
         yield line_case(chance, larger, 0)

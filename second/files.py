@@ -3,7 +3,10 @@
 import struct
 from typing import NamedTuple
 
-from rules import DEFAULT, LIMITS, NOT_ADMITTED, START, Table, admitted_step, broken_rule, has_delays, step, unreadable
+from rules import (
+    LIMITS, NEW_DEFAULT, NOT_ADMITTED, OLD_DEFAULT, START, Table, admitted_step, broken_rule, has_delays, step,
+    unreadable,
+)
 
 # The numbers for what files, parts and buffers are refused for.
 TOO_SHORT, WRONG_HEADER, WRONG_LENGTH, BEYOND_HELD, NO_ROOM, OVERLAP_DIFFERS = 1, 2, 3, 14, 15, 16
@@ -42,9 +45,7 @@ def most_records(k):
 
 
 def k_written(table):
-    """How many entries are written of a table, or of None for the wish for none."""
-    if table is None:
-        return 0
+    """How many entries are written of a table."""
     return WITH_DELAYS if has_delays(table) else WITHOUT_DELAYS
 
 
@@ -55,8 +56,13 @@ def file_with_entries(k, table, records):
 
 
 def file_of(table, records):
-    """The file of a table, or None for the wish for none, and record bytes."""
-    return file_with_entries(k_written(table), table or DEFAULT, records)
+    """The file of a table and record bytes, as it is written."""
+    return file_with_entries(k_written(table), table, records)
+
+
+def file_without_entries(records):
+    """The file of record bytes alone, which means the old default; the writer made such files before request 7."""
+    return file_with_entries(0, OLD_DEFAULT, records)
 
 
 def damage(file):
@@ -70,12 +76,12 @@ def damage(file):
 
 
 def table_of(file):
-    """The table of any bytes: the entries behind the header if they are all there, without delays if it says 18."""
+    """The table of any bytes: its entries if they are all there, without delays if it says 18, else the old default."""
     k = header_of(file).k if len(file) >= HEADER.size else 0
     entries = file[HEADER.size:record_offset(k)]
     if k in ENTRY_COUNTS[1:] and len(entries) == 2 * k:
         return Table(*ENTRIES.unpack(entries + bytes(ENTRIES.size - len(entries))))
-    return DEFAULT
+    return OLD_DEFAULT
 
 
 def read(file):
@@ -160,11 +166,12 @@ def lay_line(file, buffer):
 
 def write(table, codes, amounts, buffer):
     """The writer, with None as the wish for no table: number, rule, index, length and the buffer after."""
+    table = NEW_DEFAULT if table is None else table
     if len(codes) != len(amounts):
         return WRONG_LENGTH, 0, 0, 0, buffer
     if len(codes) > most_records(k_written(table)):
         return WRONG_HEADER, 0, 0, 0, buffer
-    rule = 0 if table is None else broken_rule(table)
+    rule = broken_rule(table)
     if rule:
         return NOT_ADMITTED, rule, 0, 0, buffer
     for index, (code, amount) in enumerate(zip(codes, amounts)):

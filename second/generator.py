@@ -4,6 +4,7 @@ import random
 from itertools import islice
 
 import block_cases
+import default_cases
 import delay_cases
 import entry_cases
 import extend_cases
@@ -19,7 +20,7 @@ from search import NotFound
 
 MAKERS = (
     step_cases, file_cases, join_cases, write_cases, manual_cases, block_cases, list_cases, fetch_cases, extend_cases,
-    refused_extend_cases, delay_cases, entry_cases,
+    refused_extend_cases, delay_cases, entry_cases, default_cases,
 )
 
 

@@ -5,9 +5,11 @@ from itertools import product
 from buffers import NO_BUFFER, buffer_for
 from corpus import case_of
 from file_cases import any_file, faults, file_with, wrong_headers, wrong_lengths
-from files import MOST_RECORDS, file_of, judge
+from files import MOST_RECORDS, file_of, file_without_entries, judge
 from records import packed_steps
-from rules import DEFAULT, FROM_NEUTRAL, GEAR_TO_GEAR, LONGEST_TICK, PAST_STAGE_LIMIT, REQUESTS, START, TICK, TO_NEUTRAL
+from rules import (
+    FROM_NEUTRAL, GEAR_TO_GEAR, LONGEST_TICK, OLD_DEFAULT, PAST_STAGE_LIMIT, REQUESTS, START, TICK, TO_NEUTRAL,
+)
 from shifts import ENTRY, HEAD, build
 from tables import RULES, admitted_table, broken_table, edge_tables, good_table
 from walks import (
@@ -50,7 +52,8 @@ def pace_of(chance):
 def every_shift(chance):
     """Every request, and every shift with ticks before and behind it, broken off at its end, before and in the next."""
     for request in REQUESTS:
-        yield list_case(chance, file_with(chance, DEFAULT, timed(DEFAULT, (*lead(chance, request), request), max)))
+        steps = timed(OLD_DEFAULT, (*lead(chance, request), request), max)
+        yield list_case(chance, file_with(chance, OLD_DEFAULT, steps))
     for request, shifts in ROUNDS.items():
         for shift in shifts:
             table, box = good_table(chance), box_after(shift)
@@ -86,7 +89,7 @@ def every_room(chance):
         steps = timed(table, shifts_in_a_row(chance, count), mixed(chance))
         yield list_case(chance, file_with(chance, table, steps), spare)
     for text in ([], [(TICK, 5)], [(TICK, LONGEST_TICK)] * 3):
-        yield list_case(chance, file_with(chance, DEFAULT, text), 3)
+        yield list_case(chance, file_with(chance, OLD_DEFAULT, text), 3)
 
 
 def every_refused_record(chance):
@@ -108,29 +111,29 @@ def every_excess(chance):
     """Files that are refused with 9, 11 and 12 behind none, one and more shifts, by one and by more."""
     for number, count, excess in product(WAYS_OVER, (0, 1, 3), (1, chance.randint(2, 90))):
         codes = shifts_in_a_row(chance, count)
-        request = chance.choice(requests_at(states(DEFAULT, timed(DEFAULT, codes, min))[-1].box))
-        steps = timed(DEFAULT, (*codes, request, *chance.choice(WAYS_OVER[number])), min)
-        over = steps_over(DEFAULT, states(DEFAULT, steps)[-1], number, excess)
-        yield from refused_cases(chance, file_with(chance, DEFAULT, steps, over), count + 1)
+        request = chance.choice(requests_at(states(OLD_DEFAULT, timed(OLD_DEFAULT, codes, min))[-1].box))
+        steps = timed(OLD_DEFAULT, (*codes, request, *chance.choice(WAYS_OVER[number])), min)
+        over = steps_over(OLD_DEFAULT, states(OLD_DEFAULT, steps)[-1], number, excess)
+        yield from refused_cases(chance, file_with(chance, OLD_DEFAULT, steps, over), count + 1)
     for steps in walks_over(chance):
         yield list_case(chance, file_with(chance, SLOW, steps), 24)
     for way in WAYS_OVER[PAST_STAGE_LIMIT]:
-        steps = timed(DEFAULT, (FROM_NEUTRAL, *way), mixed(chance))
-        yield list_case(chance, file_with(chance, DEFAULT, steps, [(TICK, LONGEST_TICK)]), 24)
+        steps = timed(OLD_DEFAULT, (FROM_NEUTRAL, *way), mixed(chance))
+        yield list_case(chance, file_with(chance, OLD_DEFAULT, steps, [(TICK, LONGEST_TICK)]), 24)
 
 
 def every_damage(chance):
     """Files that are refused with 1 to 4, and tables at the edge of each rule."""
-    for table in (None, admitted_table(chance)):
-        file = file_of(table, packed_steps(timed(DEFAULT, FINISHED[FROM_NEUTRAL][0], min)))
+    records = packed_steps(timed(OLD_DEFAULT, FINISHED[FROM_NEUTRAL][0], min))
+    for file in (file_without_entries(records), file_of(admitted_table(chance), records)):
         for damaged in chance.sample([*wrong_headers(chance, file), *wrong_lengths(chance, file)], 12):
             yield list_case(chance, damaged, 24)
         for damaged in (b"", file[:11], file[:-1], file + b"\0", bytes(12)):
             yield from refused_cases(chance, damaged)
     for rule in RULES:
         broken, kept, _ = edge_tables(chance, rule)
-        yield from refused_cases(chance, file_with(chance, broken, any_walk(chance, DEFAULT)))
-        yield list_case(chance, file_with(chance, kept, any_walk(chance, DEFAULT)))
+        yield from refused_cases(chance, file_with(chance, broken, any_walk(chance, OLD_DEFAULT)))
+        yield list_case(chance, file_with(chance, kept, any_walk(chance, OLD_DEFAULT)))
     file = file_with(chance, broken_table(chance), bytes(4))
     for damaged in (file, file + b"\0"):
         yield from refused_cases(chance, damaged)
@@ -146,9 +149,9 @@ def most_shifts(chance):
     steps = there_and_back() * (MOST_RECORDS // len(there_and_back()))
     steps += [(TICK, 1)] * (MOST_RECORDS - len(steps) - 1) + [(FROM_NEUTRAL, 0)]
     for spare in (0, -1):
-        yield list_case(chance, file_of(None, packed_steps(steps)), spare)
-    some = there_and_back() * 150 + timed(DEFAULT, FINISHED[FROM_NEUTRAL][0], min) + [(GEAR_TO_GEAR, 0)]
-    yield list_case(chance, file_of(None, packed_steps(some)), 5)
+        yield list_case(chance, file_without_entries(packed_steps(steps)), spare)
+    some = there_and_back() * 150 + timed(OLD_DEFAULT, FINISHED[FROM_NEUTRAL][0], min) + [(GEAR_TO_GEAR, 0)]
+    yield list_case(chance, file_without_entries(packed_steps(some)), 5)
 
 
 def demanded(chance):

@@ -6,7 +6,7 @@ import places
 from corpus import case_of
 from records import LISTED, any_record, bad_records, good_amount, packed_pieces, tick_amount, unlisted_codes
 from rules import (
-    ASK_CLUTCH, DEFAULT, DELIVER, DEVICE_FAILED, DEVICE_GOOD, ENGINE_WAITS, FINISH, GOOD, LONGEST_TICK, RAISE_ERROR,
+    ASK_CLUTCH, DELIVER, DEVICE_FAILED, DEVICE_GOOD, ENGINE_WAITS, FINISH, GOOD, LONGEST_TICK, OLD_DEFAULT, RAISE_ERROR,
     REQUESTS, RESET, SENT, TAKE, TICK, WORKING,
 )
 from tables import RULES, admitted_table, any_table, broken_table, edge_tables, good_table
@@ -48,7 +48,7 @@ def every_request(chance):
     """Each request at rest, with the box on either side."""
     for place, ways in places.ways().items():
         for request in REQUESTS if place[0] == places.AT_REST else ():
-            yield manual_case(DEFAULT, steps_to(chance, DEFAULT, ways), [(request, 0)])
+            yield manual_case(OLD_DEFAULT, steps_to(chance, OLD_DEFAULT, ways), [(request, 0)])
 
 
 def unhurried(least, most):
@@ -94,7 +94,7 @@ def every_table(chance):
     for rule in RULES:
         broken, kept, _ = edge_tables(chance, rule)
         for table in (broken, kept):
-            yield manual_case(table, any_walk(chance, DEFAULT)[:MOST_STEPS], [(TICK, 1)])
+            yield manual_case(table, any_walk(chance, OLD_DEFAULT)[:MOST_STEPS], [(TICK, 1)])
     yield manual_case(broken_table(chance))
     for code in (*LISTED, *unlisted_codes(chance)):
         yield manual_case(broken_table(chance), [(code, good_amount(chance, code))])

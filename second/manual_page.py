@@ -10,7 +10,7 @@ from m9 import BOOLS, EVENTS, M9, NAMES_BY_CODE
 from pages import NotMade, table_of
 from program import ROOT, printed
 from records import packed_steps
-from rules import DEFAULT, FINISH, TICK
+from rules import FINISH, OLD_DEFAULT, TICK
 from settlements import ADDED, DELAY_GUARDS, REQUESTED, SETTLED, SETTLEMENTS
 from walks import timed
 
@@ -29,11 +29,11 @@ def code_of(event):
 
 
 def what_changes(settlement, found):
-    """What a settlement that is off changes on the states reached under the default table, in words.
+    """What a settlement that is off changes on the states reached under the old default, in words.
 
-    A delay is looked for under the default table with the house values: it is 0 in the other.
+    A delay is looked for under the new default with the house values: it is 0 in the other.
     """
-    name = "house" if settlement in DELAY_GUARDS else "default"
+    name = "house" if settlement in DELAY_GUARDS else "old default"
     table, ticks = reached.SEARCHED[name]
     change = reached.first_change(settlement, table, found[name])
     if not change:
@@ -66,10 +66,11 @@ def searched_text(found):
     error_flags = [flag for flag in BOOLS if flag.startswith("Error_")]
     errors = sum(each[flag] for each in variables if M9.chosen(each, FINISH) for flag in error_flags)
     return (
-        f"Searched were {len(found['default'])} states under the default table, where {numbers['default']} of the "
-        f"{len(SETTLED)} change an answer, {len(found['small'])} under a table with small limits, where "
-        f"{numbers['small']} do, and {len(found['house'])} under the default table with the house values of the "
-        f"clutches' delays, where {numbers['house']} do; states that can do the same now count as one. In all of them "
+        f"Searched were {len(found['old default'])} states under the old default table, where "
+        f"{numbers['old default']} of the {len(SETTLED)} change an answer, {len(found['small'])} under a table with "
+        f"small limits, where {numbers['small']} do, and {len(found['house'])} under the new default table with the "
+        f"house values of the clutches' delays, where {numbers['house']} do; states that can do the same now count as "
+        f"one. In all of them "
         f"at most {enabled} event of a step has its guards on flags hold, and where FINAL's guard holds, "
         f"{errors} error flags are up."
     )
@@ -143,8 +144,8 @@ def flags_part(command):
     """The flags that the program has up at each place, by the first way that leads there."""
     ways = places.ways()
     order = sorted(ways, key=place_order)
-    streams = [packed(case_of("manual", DEFAULT, packed_steps(timed(DEFAULT, ways[place][0], min)))) for place in order]
-    lines, faults = printed(command, streams)
+    walks = [packed_steps(timed(OLD_DEFAULT, ways[place][0], min)) for place in order]
+    lines, faults = printed(command, [packed(case_of("manual", OLD_DEFAULT, walk)) for walk in walks])
     if faults:
         raise NotMade("; ".join(faults))
     rows = [(place_text(*place), ", ".join(flags_in(line)) or "none") for place, line in zip(order, lines)]

@@ -3,7 +3,7 @@
 from functools import lru_cache
 
 import m9
-from rules import DEFAULT, FAILED, GOOD, SENT, TICK, WAITING, WORKING
+from rules import FAILED, GOOD, OLD_DEFAULT, SENT, TICK, WAITING, WORKING
 from walks import ROUNDS, leads, timed
 
 AT_REST = 0
@@ -38,8 +38,8 @@ def ways():
     for request, shifts in ROUNDS.items():
         for codes in [lead + shift for shift in shifts for lead in leads(request)]:
             variables, way = m9.START, ()
-            for code, amount in timed(DEFAULT, codes, min):
-                *_, variables = m9.step(DEFAULT, variables, code, amount)
+            for code, amount in timed(OLD_DEFAULT, codes, min):
+                *_, variables = m9.step(OLD_DEFAULT, variables, code, amount)
                 if code != TICK:
                     way += (code,)
                     found.setdefault(place_of(variables), {})[way] = None

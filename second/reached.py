@@ -5,7 +5,7 @@ from typing import NamedTuple, Tuple
 
 import m9
 from m9 import M9, Machine
-from rules import ALLOWED, DEFAULT, LONGEST_TICK, TICK, Table, broken_rule, route_sums
+from rules import ALLOWED, LONGEST_TICK, OLD_DEFAULT, TICK, Table, broken_rule, route_sums
 from tables import HOUSE
 
 CODES = tuple(code for code in ALLOWED if code != TICK)
@@ -48,7 +48,7 @@ def probes(machine, table, variables):
 
 
 # The tables that are searched, each with the ticks that are gone by: with small limits all of them can be.
-SEARCHED = {"small": (small_table(), probes), "default": (DEFAULT, to_bounds), "house": (HOUSE, to_bounds)}
+SEARCHED = {"small": (small_table(), probes), "old default": (OLD_DEFAULT, to_bounds), "house": (HOUSE, to_bounds)}
 
 
 class Reached(NamedTuple):

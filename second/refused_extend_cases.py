@@ -12,7 +12,7 @@ from list_cases import shifts_in_a_row
 from list_coverage import OFF
 from records import LISTED, UNLISTED, any_record, packed_pieces, packed_steps
 from rules import (
-    AT_REST, DEFAULT, DONE, ERROR, FROM_NEUTRAL, GOOD, NOT_ADMITTED, PHASES, REQUESTS, SENT, START, TICK, State,
+    AT_REST, DONE, ERROR, FROM_NEUTRAL, GOOD, NOT_ADMITTED, OLD_DEFAULT, PHASES, REQUESTS, SENT, START, TICK, State,
 )
 from shifts import ENTRY, HEAD, Shift, entries_of
 from step_cases import aimed_steps, aimed_tick, free_state, past_both, unlisted
@@ -134,14 +134,15 @@ def every_damage(chance):
         yield extend_case(chance, given._replace(count=2))
     for stated in (0, 1, 2**28, 2**28 - 1, 2**32 - 1):
         for held, count in ((8, 0), (8, 16_000), (24, 16_000)):
-            yield extend_case(chance, Given(DEFAULT, START, count, bytes(16), b"", stated=stated, held=held, room=24))
+            given = Given(OLD_DEFAULT, START, count, bytes(16), b"", stated=stated, held=held, room=24)
+            yield extend_case(chance, given)
 
 
 def every_misfit(chance):
     """States and lists that do not fit for one thing, by one, on walks that are cut and on given states."""
     for phase in (1, chance.randint(2, 20), 21, None):
         state = free_state(chance, phase=phase, clock=5_000, request_time=chance.randint(10, 4_999))
-        given = on_state(chance, DEFAULT, state, b"", 50) if phase else three_and_more(chance, True)
+        given = on_state(chance, OLD_DEFAULT, state, b"", 50) if phase else three_and_more(chance, True)
         entry = entry_of(given)
         for field in ("last", "request_time", "age"):
             for value in (getattr(entry, field) - 1, getattr(entry, field) + 1, getattr(entry, field) + 2**15):
@@ -152,14 +153,14 @@ def every_misfit(chance):
         yield extend_case(chance, given._replace(entries=b""))
     ahead = State(5, 0, 3, 5, GOOD, 5, 7)
     for age in (1, 2**32 - 2, 2):
-        yield extend_case(chance, on_state(chance, DEFAULT, ahead, b"", age=age))
+        yield extend_case(chance, on_state(chance, OLD_DEFAULT, ahead, b"", age=age))
     for phase, records in product((AT_REST, DONE, ERROR, 24, 255), (b"", packed_steps([(TICK, 1)]))):
         state = free_state(chance, phase=phase, clock=chance.randint(0, 9))
         for fields in ({"end": 0}, {"last": 50}, {"last": 51}, {"last": 65_535}, {"end": 0, "last": 49}):
-            yield extend_case(chance, on_state(chance, DEFAULT, state, records, 50, **fields))
+            yield extend_case(chance, on_state(chance, OLD_DEFAULT, state, records, 50, **fields))
     for phase in (1, 21):
         for count, records in product((0, 1, 9), (b"", bytes(4))):
-            yield extend_case(chance, Given(DEFAULT, free_state(chance, phase=phase), count, b"", records))
+            yield extend_case(chance, Given(OLD_DEFAULT, free_state(chance, phase=phase), count, b"", records))
 
 
 def every_table(chance):
@@ -199,10 +200,10 @@ def every_count(chance):
     most, largest = MOST_RECORDS, 2**32 - 1
     counts = (most, 1), (most + 1, 0), (most - 1, 2), (2**16, 1), (largest, 1), (largest, 0), (largest - 2, 5)
     for (count, new), state in product(counts, (State(clock=5), State(5, 0, 3, 5, SENT, 5, 2))):
-        given = on_state(chance, DEFAULT, state, packed_steps([(TICK, 1)] * new), min(count, 2**16))
+        given = on_state(chance, OLD_DEFAULT, state, packed_steps([(TICK, 1)] * new), min(count, 2**16))
         yield extend_case(chance, given._replace(count=count))
     for count, records in product((most - 1, most - 2, 300, 5, 0), (bytes(4), packed_steps([(FROM_NEUTRAL, 0)]) * 2)):
-        yield extend_case(chance, Given(DEFAULT, START, count, b"", records))
+        yield extend_case(chance, Given(OLD_DEFAULT, START, count, b"", records))
 
 
 def demanded(chance):

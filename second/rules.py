@@ -11,7 +11,7 @@ LONGEST_TICK = 65_535
 
 
 class Table(NamedTuple):
-    """The limit table, by the entries' names and in their order; the defaults make the default table."""
+    """The limit table, by the entries' names and in their order; these values make the old default."""
 
     Channel_DL: int = 5
     Engine_Sync_DL: int = 100
@@ -37,7 +37,9 @@ class Table(NamedTuple):
     Error_Clutch_Close_DE: int = 0
 
 
-DEFAULT = Table()
+# What a file without entries means for ever, and what the writer has for the wish for none since request 7.
+OLD_DEFAULT = Table()
+NEW_DEFAULT = OLD_DEFAULT._replace(Channel_DL=10)
 # How many entries there are without the four delays of clutches, and the names of these.
 LIMITS = 18
 DELAYS = Table._fields[LIMITS:]

@@ -9,9 +9,9 @@ from records import (
     unlisted_code, unlisted_codes,
 )
 from rules import (
-    ALLOWED, ASK_CLUTCH, AT_REST, BOXES, DEFAULT, DONE, ENGINE_PHASES, ERROR, GOOD, LAST_CLOCK, LONGEST_TICK,
-    NOT_ALLOWED, PAST_CLOCK, PAST_PHASE_LIMIT, PAST_STAGE_LIMIT, PHASES, REQUESTS, RESET, STAGES, START, TAKE, TICK,
-    TOO_EARLY, TOO_LATE, WAITING, State, Table, earliest_clock, forbidden, latest_clocks,
+    ALLOWED, ASK_CLUTCH, AT_REST, BOXES, DONE, ENGINE_PHASES, ERROR, GOOD, LAST_CLOCK, LONGEST_TICK, NEW_DEFAULT,
+    NOT_ALLOWED, OLD_DEFAULT, PAST_CLOCK, PAST_PHASE_LIMIT, PAST_STAGE_LIMIT, PHASES, REQUESTS, RESET, STAGES, START,
+    TAKE, TICK, TOO_EARLY, TOO_LATE, WAITING, State, Table, earliest_clock, forbidden, latest_clocks,
 )
 from search import first_found
 from tables import LARGEST_ENTRY, RULES, admitted_table, any_table, broken_table, edge_tables, good_table
@@ -141,8 +141,9 @@ def aimed_steps(chance):
 
 
 def extreme_entries(chance):
-    """The default, and admitted tables with one entry at an end of its range or where sums of 16 bits would wrap."""
-    yield case_of("admit", DEFAULT)
+    """Both defaults, and admitted tables with one entry at an end of its range or where sums of 16 bits would wrap."""
+    for table in (OLD_DEFAULT, NEW_DEFAULT):
+        yield case_of("admit", table)
     for entry, value in product(Table._fields, (0, 1, (LARGEST_ENTRY + 1) // 2, LARGEST_ENTRY)):
         yield case_of("admit", admitted_table(chance)._replace(**{entry: value}))
 

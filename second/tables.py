@@ -1,6 +1,8 @@
 """Limit tables by chance: admitted ones, ones at the edge of a rule, and any."""
 
-from rules import DEFAULT, DELAYS, LIMITS, ORDERS, Table, broken_rule, delay_slacks, route_sums, slacks
+from rules import (
+    DELAYS, LIMITS, NEW_DEFAULT, OLD_DEFAULT, ORDERS, Table, broken_rule, delay_slacks, route_sums, slacks,
+)
 from search import NotFound, first_found
 
 LARGEST_ENTRY = 65_535
@@ -23,8 +25,8 @@ LARGER_SIDES = {
 SIZES = 1, 5, 100, 2_400
 
 RULES = range(1, 17)
-# The default table with the house values of the delays.
-HOUSE = DEFAULT._replace(Clutch_Open_DE=20, Error_Clutch_Open_DE=60, Clutch_Close_DE=20, Error_Clutch_Close_DE=60)
+# The new default with the house values of the delays.
+HOUSE = NEW_DEFAULT._replace(Clutch_Open_DE=20, Error_Clutch_Open_DE=60, Clutch_Close_DE=20, Error_Clutch_Close_DE=60)
 # The conditions of rule 16 on delays that are not all 0.
 DELAY_CONDITIONS = (
     "open at least 1", "close at least 1", "failing to open exceeds open", "failing to close exceeds close",
@@ -131,9 +133,9 @@ def broken_table(chance):
 
 
 def good_table(chance):
-    """The default, with or without the house values of the delays, or an admitted table, often with delays."""
+    """The old or the new default, the latter also with the house values, or an admitted table, often with delays."""
     if chance.random() < 0.3:
-        return HOUSE if chance.random() < 0.3 else DEFAULT
+        return chance.choice((OLD_DEFAULT, NEW_DEFAULT, HOUSE))
     tight = chance.random() < 0.3
     table = admitted_table(chance, tight)
     return with_delays(chance, table, tight) if chance.random() < 0.5 else table

@@ -13,10 +13,10 @@ import generator
 from block_cases import refused_behind_ticks
 from corpus import case_of, worked
 from coverage import OVER, Coverage, later_numbers, marks, possible_cells
-from files import block, file_of, judge
+from files import block, file_of, file_without_entries, judge
 from generator import cases
 from records import LISTED, packed_pieces, packed_steps
-from rules import DEFAULT, LAST_CLOCK, REQUESTS, START, State, broken_rule, slacks, step
+from rules import LAST_CLOCK, OLD_DEFAULT, REQUESTS, START, State, broken_rule, slacks, step
 from search import MOST_TRIES, NotFound, first_found
 from shifts import Shift, list_of
 from step_cases import aimed_steps
@@ -55,7 +55,7 @@ class Makers(unittest.TestCase):
         self.assertEqual([len(leads(request)) for request in REQUESTS], [4, 3, 3])
         for request in REQUESTS:
             for codes in leads(request):
-                file = file_of(None, packed_steps(timed(DEFAULT, codes, min)))
+                file = file_without_entries(packed_steps(timed(OLD_DEFAULT, codes, min)))
                 self.assertEqual(judge(file)[-1].box, REQUESTS[request].box)
 
     def test_walks_through_errors(self):
@@ -87,9 +87,9 @@ class Makers(unittest.TestCase):
 
     def test_steps_over_a_limit(self):
         waiting = State(clock=100, phase=1, stage=5)
-        self.assertEqual([steps_over(DEFAULT, waiting, number, 3) for number in (9, 11, 13)],
+        self.assertEqual([steps_over(OLD_DEFAULT, waiting, number, 3) for number in (9, 11, 13)],
                          [[(12, 48), (9, 0)], [(12, 58)], None])
-        self.assertIsNone(steps_over(DEFAULT, waiting, 9, 51))
+        self.assertIsNone(steps_over(OLD_DEFAULT, waiting, 9, 51))
 
     def test_a_seed_makes_the_same_cases(self):
         first, again, other = (list(islice(cases(seed, 0), 200)) for seed in (7, 7, 8))
@@ -113,41 +113,41 @@ class TheCoverage(unittest.TestCase):
         self.assert_marked({
             ("place errors", 5, "in gear"), ("place errors", 5, "reset"), ("place errors", 5, "then 3"),
             ("place resets", 5, "error"), ("place resets", 17, "sent"), ("events", "RESET", 0), ("manual", 7, 13),
-        }, "manual", DEFAULT, file[12:])
+        }, "manual", OLD_DEFAULT, file[12:])
 
     def test_single_resets_and_takes(self):
         error = State(phase=23, stage=4, box=1)
         self.assert_marked({("accepted resets", "failed", "step, in gear"), ("resets", 23, "step 0")},
-                           "step", DEFAULT, error, 13, 0)
+                           "step", OLD_DEFAULT, error, 13, 0)
         self.assert_marked({("accepted resets", "failed", "advance, in gear"), ("resets", 23, "advance 0")},
-                           "advance", DEFAULT, error, b"\x0d\0\0\0")
-        self.assert_marked({("resets", 23, "advance 6")}, "advance", DEFAULT, error, b"\x0d\0\1\0")
-        self.assert_marked({("resets", 0, "step 7")}, "step", DEFAULT, START, 13, 0)
-        self.assert_marked({("takes", 5, "neutral, neutral")}, "step", DEFAULT, State(phase=5, stage=3), 8, 0)
-        self.assert_marked({("takes", 9, "neutral, neutral")}, "step", DEFAULT, State(phase=9, stage=3), 8, 0)
+                           "advance", OLD_DEFAULT, error, b"\x0d\0\0\0")
+        self.assert_marked({("resets", 23, "advance 6")}, "advance", OLD_DEFAULT, error, b"\x0d\0\1\0")
+        self.assert_marked({("resets", 0, "step 7")}, "step", OLD_DEFAULT, START, 13, 0)
+        self.assert_marked({("takes", 5, "neutral, neutral")}, "step", OLD_DEFAULT, State(phase=5, stage=3), 8, 0)
+        self.assert_marked({("takes", 9, "neutral, neutral")}, "step", OLD_DEFAULT, State(phase=9, stage=3), 8, 0)
 
     def test_codes(self):
-        self.assert_marked({("step", 5, 14)}, "step", DEFAULT, START, 14, 0)
-        self.assert_marked({("step", 5, "other")}, "step", DEFAULT, START, 15, 0)
-        self.assert_marked({("write", 0, 1), ("write", 0, 13)}, "write", 0, DEFAULT, [0, 0], b"\x01\x0d", bytes(20))
-        self.assert_marked({("write", 5, 14)}, "write", 0, DEFAULT, [0, 0], b"\x0d\x0e", bytes(20))
-        self.assert_marked({("write", 6, 13)}, "write", 0, DEFAULT, [1, 0], b"\x0d\x0e", bytes(20))
+        self.assert_marked({("step", 5, 14)}, "step", OLD_DEFAULT, START, 14, 0)
+        self.assert_marked({("step", 5, "other")}, "step", OLD_DEFAULT, START, 15, 0)
+        self.assert_marked({("write", 0, 1), ("write", 0, 13)}, "write", 0, OLD_DEFAULT, [0, 0], b"\x01\x0d", bytes(56))
+        self.assert_marked({("write", 5, 14)}, "write", 0, OLD_DEFAULT, [0, 0], b"\x0d\x0e", bytes(20))
+        self.assert_marked({("write", 6, 13)}, "write", 0, OLD_DEFAULT, [1, 0], b"\x0d\x0e", bytes(20))
 
     def test_blocks(self):
-        bad, shift = DEFAULT._replace(ChangeDL=1404), written(WOULD_NOT_CLOSE)[12:]
+        bad, shift = OLD_DEFAULT._replace(ChangeDL=1404), written(WOULD_NOT_CLOSE)[12:]
         for given, cells in (
-            ((DEFAULT, START, shift), {("left over", 0, "accepted")}),
-            ((DEFAULT, START, shift + b"\x0d\xff"), {("left over", 2, "a code left over")}),
-            ((DEFAULT, START, shift + b"\x0e"), {("left over", 1, "no code left over")}),
-            ((DEFAULT, START, shift[4:]), {("block places", 7, "first"), ("left over", 0, "refused")}),
-            ((DEFAULT, START, shift + shift), {("block places", 7, "between")}),
-            ((DEFAULT, START, shift + bytes(5)), {("block places", 5, "last"), ("left over", 1, "refused")}),
-            ((DEFAULT, START, bytes(4)), {("block places", 5, "alone")}),
+            ((OLD_DEFAULT, START, shift), {("left over", 0, "accepted")}),
+            ((OLD_DEFAULT, START, shift + b"\x0d\xff"), {("left over", 2, "a code left over")}),
+            ((OLD_DEFAULT, START, shift + b"\x0e"), {("left over", 1, "no code left over")}),
+            ((OLD_DEFAULT, START, shift[4:]), {("block places", 7, "first"), ("left over", 0, "refused")}),
+            ((OLD_DEFAULT, START, shift + shift), {("block places", 7, "between")}),
+            ((OLD_DEFAULT, START, shift + bytes(5)), {("block places", 5, "last"), ("left over", 1, "refused")}),
+            ((OLD_DEFAULT, START, bytes(4)), {("block places", 5, "alone")}),
             ((bad, START, shift), {("rules", "block", 14), ("block places", 4, "first")}),
             ((bad, START, b"123"), {("numbers", "block", 0), ("left over", 3, "no record, bad table")}),
             ((bad, State(stage=6), b"1234"), {("unlisted", "stage", 4), ("left over", 0, "refused, bad table")}),
-            ((DEFAULT, State(box=2), b""), {("unlisted", "box", "no record"), ("left over", 0, "no record")}),
-            ((DEFAULT, State(phase=24), shift), {("unlisted", "phase", 7)}),
+            ((OLD_DEFAULT, State(box=2), b""), {("unlisted", "box", "no record"), ("left over", 0, "no record")}),
+            ((OLD_DEFAULT, State(phase=24), shift), {("unlisted", "phase", 7)}),
         ):
             self.assert_marked(cells, "block", *given)
 
@@ -155,25 +155,28 @@ class TheCoverage(unittest.TestCase):
         sent, ahead = State(phase=1, stage=1), State(phase=1, phase_time=LAST_CLOCK, stage=5)
         late = State(clock=400, phase=1, stage=2, stage_time=400)
         for given, cells in (
-            (("step", DEFAULT, sent, 12, 6), {("excesses", "step 12", "1")}),
-            (("step", DEFAULT, sent, 12, 7), {("excesses", "step 12", "16 bits")}),
-            (("step", DEFAULT, sent, 12, 157), {("both limits", "step", "channel, sent: less")}),
-            (("step", DEFAULT, late, 12, 101), {("excesses", "step 12", "1"), ("both limits", "step", "device: more")}),
-            (("step", DEFAULT, ahead, 9, 0), {("excesses", "step 9", "64 bits")}),
-            (("advance", DEFAULT, ahead._replace(clock=151), b"\x09\0\0\0"), {("excesses", "advance 9", "32 bits")}),
-            (("block", DEFAULT, ahead, written("t151 9")[12:]), {("excesses", "block 9", "32 bits")}),
-            (("block", DEFAULT, State(clock=100, phase=1, stage=2, stage_time=100), written("t2 t255")[12:]),
+            (("step", OLD_DEFAULT, sent, 12, 6), {("excesses", "step 12", "1")}),
+            (("step", OLD_DEFAULT, sent, 12, 7), {("excesses", "step 12", "16 bits")}),
+            (("step", OLD_DEFAULT, sent, 12, 157), {("both limits", "step", "channel, sent: less")}),
+            (("step", OLD_DEFAULT, late, 12, 101), {
+                ("excesses", "step 12", "1"), ("both limits", "step", "device: more")}),
+            (("step", OLD_DEFAULT, ahead, 9, 0), {("excesses", "step 9", "64 bits")}),
+            (("advance", OLD_DEFAULT, ahead._replace(clock=151), b"\x09\0\0\0"), {
+                ("excesses", "advance 9", "32 bits")}),
+            (("block", OLD_DEFAULT, ahead, written("t151 9")[12:]), {("excesses", "block 9", "32 bits")}),
+            (("block", OLD_DEFAULT, State(clock=100, phase=1, stage=2, stage_time=100), written("t2 t255")[12:]),
              {("both limits", "block", "device: more")}),
             (("judge", written("1 4 t256")),
              {("excesses", "judge 12", "16 bits"), ("both limits", "judge", "device: less")}),
-            (("manual", DEFAULT, written("1 4 t256")[12:]), {("both limits", "manual", "device: less")}),
-            (("manual", DEFAULT, written("1 4 7 t156")[12:]), {("excesses", "manual 11", "1")}),
+            (("manual", OLD_DEFAULT, written("1 4 t256")[12:]), {("both limits", "manual", "device: less")}),
+            (("manual", OLD_DEFAULT, written("1 4 7 t156")[12:]), {("excesses", "manual 11", "1")}),
             (("line", written("1 4 7 9"), bytes(30)), {("digits", 9, 3)}),
         ):
             self.assert_marked(cells, *given)
         for given in (
-            ("step", DEFAULT, late._replace(phase_time=295, stage_time=350), 12, 51), ("step", DEFAULT, sent, 12, 6),
-            ("line", written("1 4 7 9"), b""), ("judge", written(WOULD_NOT_CLOSE)), ("judge", written("1 1")),
+            ("step", OLD_DEFAULT, late._replace(phase_time=295, stage_time=350), 12, 51),
+            ("step", OLD_DEFAULT, sent, 12, 6), ("line", written("1 4 7 9"), b""),
+            ("judge", written(WOULD_NOT_CLOSE)), ("judge", written("1 1")),
         ):
             grids = {grid for grid, _, _ in marks(worked(case_of(*given)))}
             self.assertTrue(grids.isdisjoint({"both limits", "digits"}))
@@ -234,11 +237,11 @@ class TheCoverage(unittest.TestCase):
             ((START, 8, 16_373, b"", empty), {
                 ("reasons", "records", "alone"), ("counts", "one more in all", "too many")}),
         ):
-            self.assert_marked(cells, "extend", DEFAULT, *given)
+            self.assert_marked(cells, "extend", OLD_DEFAULT, *given)
 
     def test_what_did_not_come_up_is_missing(self):
         coverage = Coverage()
-        coverage.add(worked(case_of("step", DEFAULT, State(phase=23), 13, 0)))
+        coverage.add(worked(case_of("step", OLD_DEFAULT, State(phase=23), 13, 0)))
         faults = list(coverage.faults())
         self.assertEqual(len(faults), len(list(possible_cells())) - coverage.met())
         self.assertIn("missing: numbers of resets, by phase: row 22, column step 7", faults)

@@ -10,7 +10,9 @@ from delay_cases import delay_of, to_working
 from files import advance, block, judge, line
 from m9 import EVENTS, M9, Machine
 from records import packed_steps
-from rules import CLUTCH_PHASES, DEFAULT, DELAYS, LAST_CLOCK, PHASES, START, State, Table, broken_rule, slacks, step
+from rules import (
+    CLUTCH_PHASES, DELAYS, LAST_CLOCK, NEW_DEFAULT, OLD_DEFAULT, PHASES, START, State, Table, broken_rule, slacks, step,
+)
 from settlements import DELAY_GUARDS
 from shifts import build
 from tables import DELAY_CONDITIONS, HOUSE, delay_edges, delayed_table, edge_tables, good_table, with_delays
@@ -23,16 +25,16 @@ CLOSING = f"{OPENING} t60 5 8 4 5 8 t2 4"  # phase 5 is entered at 214, and its 
 
 
 def delayed(*delays, **limits):
-    """The default table with these delays and limits."""
-    return DEFAULT._replace(**dict(zip(DELAYS, delays)), **limits)
+    """The old default with these delays and limits."""
+    return OLD_DEFAULT._replace(**dict(zip(DELAYS, delays)), **limits)
 
 
 class TheTable(unittest.TestCase):
     def test_22_entries(self):
         self.assertEqual((len(Table._fields), Table._fields[18:]), (22, (
             "Clutch_Open_DE", "Error_Clutch_Open_DE", "Clutch_Close_DE", "Error_Clutch_Close_DE")))
-        self.assertEqual(DEFAULT[18:], (0, 0, 0, 0))
-        self.assertEqual((HOUSE[:18], HOUSE[18:]), (DEFAULT[:18], (20, 60, 20, 60)))
+        self.assertEqual((OLD_DEFAULT[18:], NEW_DEFAULT[18:]), ((0, 0, 0, 0),) * 2)
+        self.assertEqual((HOUSE[:18], HOUSE[18:]), (NEW_DEFAULT[:18], (20, 60, 20, 60)))
 
     def test_admitted(self):
         for delays in ((0, 0, 0, 0), (20, 60, 20, 60), (1, 2, 1, 2), (149, 150, 149, 150), (1, 150, 149, 150)):
@@ -82,8 +84,8 @@ class TheTable(unittest.TestCase):
         for _ in range(50):
             self.assertEqual([broken_rule(make(chance)) for make in (delayed_table, good_table)], [0, 0])
             self.assertEqual(len(set(delayed_table(chance)[18:])), 4)
-        self.assertEqual(with_delays(chance, DEFAULT, tight=True)[18:], (149, 150, 149, 150))
-        self.assertEqual(with_delays(chance, DEFAULT._replace(Clutch_Open_DL=1))[18:], (0, 0, 0, 0))
+        self.assertEqual(with_delays(chance, OLD_DEFAULT, tight=True)[18:], (149, 150, 149, 150))
+        self.assertEqual(with_delays(chance, OLD_DEFAULT._replace(Clutch_Open_DL=1))[18:], (0, 0, 0, 0))
 
 
 TELLING = delayed(11, 47, 23, 90)
@@ -119,14 +121,14 @@ class SingleSteps(unittest.TestCase):
             for code in (5, 6):
                 state = State(clock=7, phase=phase, stage=2)
                 given = [state._replace(stage_time=time) for time in (6, 7, 8, LAST_CLOCK)]
-                self.assertEqual(list(self.answers(DEFAULT, code, *given)),
+                self.assertEqual(list(self.answers(OLD_DEFAULT, code, *given)),
                                  [(0, 0), (0, 0), (9, 1), (9, LAST_CLOCK - 7)])
 
     def test_other_phases_have_no_such_condition(self):
         for phase in PHASES.keys() - CLUTCH_PHASES:
             for code in (5, 6) if not PHASES[phase].when_asked else (5, 7):
                 state = State(clock=7, phase=phase, stage=2, stage_time=LAST_CLOCK)
-                for table in (DEFAULT, TELLING):
+                for table in (OLD_DEFAULT, TELLING):
                     self.assertEqual(list(self.answers(table, code, state)), [(0, 0)])
 
     def test_other_steps_have_no_such_condition(self):
@@ -189,7 +191,7 @@ class AlongRuns(unittest.TestCase):
 
     def test_without_delays_a_clutch_answers_at_once(self):
         for text in (f"{OPENING} 5", f"{OPENING} 6", f"{CLOSING} 5", f"{CLOSING} 6"):
-            self.assert_run(text, 0, len(text.split()), table=DEFAULT)
+            self.assert_run(text, 0, len(text.split()), table=OLD_DEFAULT)
 
     def test_7_comes_first(self):
         self.assert_run(f"{OPENING} t20 5 6", 7, 9)
@@ -221,7 +223,7 @@ class AlongRuns(unittest.TestCase):
         chance = random.Random(4)
         for request, shifts in ROUNDS.items():
             for shift in shifts:
-                for table, pace in ((delayed_table(chance), min), (with_delays(chance, DEFAULT, tight=True), max)):
+                for table, pace in ((delayed_table(chance), min), (with_delays(chance, OLD_DEFAULT, tight=True), max)):
                     walk = timed(table, lead(chance, request) + shift, pace)
                     variables, state = m9.START, START
                     for given in walk:
@@ -251,4 +253,4 @@ class TheManual(unittest.TestCase):
     def test_on_variables_that_no_run_reaches(self):
         ahead = {**m9.START, "Clutch_Request_Close": True, "Clutch_Request_CloseT": LAST_CLOCK}
         self.assertEqual(m9.step(HOUSE, ahead, 6, 0), (9, 0, LAST_CLOCK + 60, ahead))
-        self.assertEqual(m9.step(DEFAULT, ahead, 5, 0), (9, 0, LAST_CLOCK, ahead))
+        self.assertEqual(m9.step(OLD_DEFAULT, ahead, 5, 0), (9, 0, LAST_CLOCK, ahead))

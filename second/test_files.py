@@ -3,8 +3,9 @@
 import unittest
 
 from corpus import Case, case_of, cases_in, packed, parts_of, worked
-from files import advance, block, fours, join, judge, lay_line, line, read, write
-from rules import DEFAULT, START, State
+from files import advance, block, file_without_entries, fours, join, judge, lay_line, line, read, write
+from records import packed_steps
+from rules import NEW_DEFAULT, OLD_DEFAULT, START, State
 
 K1 = "1 t5 4 t100 5 t5 8 4 t300 5 8 11"
 # The customer's case: the set order is taken in phase 4, and the clutch would not close in 5.
@@ -18,8 +19,10 @@ def lists(text):
 
 
 def written(text, table=None):
-    """The file of a run."""
+    """The file of a run: as the writer has it with a table, and else without entries."""
     codes, amounts = lists(text)
+    if table is None:
+        return file_without_entries(packed_steps(zip(codes, amounts)))
     number, _, _, length, buffer = write(table, codes, amounts, bytes(65_536))
     assert number == 0
     return buffer[:length]
@@ -35,7 +38,7 @@ class KnownRuns(unittest.TestCase):
         running, answers = START, [(0, 0)]
         for four in fours(read(file)[3]):
             if answers[-1] == (0, 0):
-                number, _, excess, running = advance(DEFAULT, running, four)
+                number, _, excess, running = advance(OLD_DEFAULT, running, four)
                 answers.append((number, excess))
         self.assertEqual((answers[-1], running), ((got, over), state))
 
@@ -127,16 +130,16 @@ class Blocks(unittest.TestCase):
     def test_a_run_cut_in_two_blocks(self):
         whole = judge(written(K1))
         for place in range(0, len(self.RECORDS) + 1, 4):
-            first = block(DEFAULT, START, self.RECORDS[:place])
+            first = block(OLD_DEFAULT, START, self.RECORDS[:place])
             self.assertEqual(first[:4], (0, 0, place // 4, 0))
-            second = block(DEFAULT, first[4], self.RECORDS[place:])
+            second = block(OLD_DEFAULT, first[4], self.RECORDS[place:])
             self.assertEqual((*second[:2], first[2] + second[2], *second[3:]), whole)
 
     def test_what_is_left_over(self):
         for left in range(4):
             for byte in b"\x01\xff":
-                self.assertEqual(block(DEFAULT, START, self.RECORDS + bytes((byte,)) * left), judge(written(K1)))
-                self.assertEqual(block(DEFAULT, START, bytes((byte,)) * left), (0, 0, 0, 0, START))
+                self.assertEqual(block(OLD_DEFAULT, START, self.RECORDS + bytes((byte,)) * left), judge(written(K1)))
+                self.assertEqual(block(OLD_DEFAULT, START, bytes((byte,)) * left), (0, 0, 0, 0, START))
 
     def test_the_state_before_the_refused_record_and_its_excess(self):
         for text, number, count, excess in (
@@ -144,7 +147,7 @@ class Blocks(unittest.TestCase):
             ("1 4 7 t156", 11, 3, 1), ("t7 1 t2 4 t1 t400 4", 12, 5, 301),
         ):
             *_, state = judge(written(" ".join(text.split()[:count])))
-            self.assertEqual(block(DEFAULT, START, written(text)[12:]), (number, 0, count, excess, state))
+            self.assertEqual(block(OLD_DEFAULT, START, written(text)[12:]), (number, 0, count, excess, state))
 
     def test_excesses_on_given_states(self):
         ahead = State(phase=1, stage=5, phase_time=2**32 - 1)
@@ -155,10 +158,10 @@ class Blocks(unittest.TestCase):
             (State(clock=2**32 - 9), "t8 t9", (13, 0, 1, 9, State(clock=2**32 - 1))),
         ]
         for state, text, answer in given:
-            self.assertEqual(block(DEFAULT, state, written(text)[12:]), answer)
+            self.assertEqual(block(OLD_DEFAULT, state, written(text)[12:]), answer)
 
     def test_a_table_that_is_not_admitted(self):
-        table, unlisted = DEFAULT._replace(ChangeDL=1404), State(box=2)
+        table, unlisted = OLD_DEFAULT._replace(ChangeDL=1404), State(box=2)
         for records in (b"", b"\xff" * 3):
             self.assertEqual(block(table, unlisted, records), (0, 0, 0, 0, unlisted))
         for records in (b"\xff" * 4, self.RECORDS):
@@ -167,7 +170,7 @@ class Blocks(unittest.TestCase):
     def test_a_state_that_is_not_listed(self):
         for state in (State(phase=24), State(stage=6), State(box=2)):
             for records, number in ((b"", 0), (self.RECORDS, 7), (b"\xff" * 8, 5), (b"\x01\1\0\0", 6)):
-                self.assertEqual(block(DEFAULT, state, records), (number, 0, 0, 0, state))
+                self.assertEqual(block(OLD_DEFAULT, state, records), (number, 0, 0, 0, state))
 
 
 class Lines(unittest.TestCase):
@@ -188,7 +191,7 @@ class Lines(unittest.TestCase):
         self.assertEqual(line(written("1 1")), b"refused 1 7 0 1 0 0\n")
         self.assertEqual(line(written("2")), b"refused 0 8 0 0 0 0\n")
         self.assertEqual(line(written("t9")[:-4] + bytes(4)), b"refused 0 5 0 0 0 0\n")
-        broken = written("1 t6", DEFAULT)
+        broken = written("1 t6", OLD_DEFAULT)
         self.assertEqual(line(broken[:46] + bytes(2) + broken[48:]), b"unread 0 4 0 0 0 0\n")
 
     def test_room(self):
@@ -219,18 +222,18 @@ class Reading(unittest.TestCase):
         self.assertEqual(self.numbers(*given, header + (16_372).to_bytes(4, "little")), [(2, 0), (2, 0), (3, 0)])
 
     def test_table(self):
-        table = DEFAULT._replace(ChangeDL=2000)
+        table = OLD_DEFAULT._replace(ChangeDL=2000)
         file = written(K1, table)
         self.assertEqual(read(file), (0, 0, table, written(K1)[12:]))
         rule_14 = file[:46] + (1404).to_bytes(2, "little") + file[48:]
-        self.assertEqual(read(rule_14), (4, 14, DEFAULT._replace(ChangeDL=1404), b""))
+        self.assertEqual(read(rule_14), (4, 14, OLD_DEFAULT._replace(ChangeDL=1404), b""))
         self.assertEqual(judge(rule_14), (4, 14, 0, 0, START))
-        self.assertEqual(read(rule_14[:48])[:3], (3, 0, DEFAULT._replace(ChangeDL=1404)))
-        self.assertEqual(read(rule_14[:47])[:3], (3, 0, DEFAULT))
+        self.assertEqual(read(rule_14[:48])[:3], (3, 0, OLD_DEFAULT._replace(ChangeDL=1404)))
+        self.assertEqual(read(rule_14[:47])[:3], (3, 0, OLD_DEFAULT))
 
     def test_records(self):
         def refused(four):
-            return judge(written("t7 t8")[:16] + four)[:3] + (advance(DEFAULT, START, four)[0],)
+            return judge(written("t7 t8")[:16] + four)[:3] + (advance(OLD_DEFAULT, START, four)[0],)
 
         self.assertEqual(refused(bytes((14, 9, 0, 0))), (5, 0, 1, 5))
         self.assertEqual(refused(bytes((13, 9, 0, 0))), (6, 0, 1, 6))
@@ -250,28 +253,29 @@ class Writing(unittest.TestCase):
         return number, rule, index
 
     def test_round_trip(self):
-        for table in (None, DEFAULT, DEFAULT._replace(ChangeDL=1405)):
+        for table in (None, OLD_DEFAULT, NEW_DEFAULT, OLD_DEFAULT._replace(ChangeDL=1405)):
             codes, amounts = lists(f"{K1} 13")
             number, rule, index, length, buffer = write(table, codes, amounts, b"x" * 200)
-            self.assertEqual((number, rule, index, length), (0, 0, 0, 64 if table is None else 100))
+            self.assertEqual((number, rule, index, length), (0, 0, 0, 100))
             self.assertEqual(buffer[length:], b"x" * (200 - length))
             _, _, got, records = read(buffer[:length])
-            self.assertEqual(got, table or DEFAULT)
+            self.assertEqual(got, table or NEW_DEFAULT)
             self.assertEqual([tuple(four) for four in fours(records)],
                              [(code, 0, amount % 256, amount // 256) for code, amount in zip(codes, amounts)])
 
     def test_room(self):
-        self.assertEqual(write(None, b"\x01", [0], b"x" * 15), (15, 0, 0, 0, b"x" * 15))
-        self.assertEqual(write(None, b"\x01", [0], b"x" * 16)[:4], (0, 0, 0, 16))
+        for table in (None, OLD_DEFAULT):
+            self.assertEqual(write(table, b"\x01", [0], b"x" * 51), (15, 0, 0, 0, b"x" * 51))
+            self.assertEqual(write(table, b"\x01", [0], b"x" * 52)[:4], (0, 0, 0, 52))
 
     def test_refusals_in_order(self):
-        broken, many = DEFAULT._replace(ChangeDL=1404), 16_373
+        broken, many = OLD_DEFAULT._replace(ChangeDL=1404), 16_373
         self.assertEqual(self.refused(broken, bytes(many), [0] * (many + 1)), (3, 0, 0))
         self.assertEqual(self.refused(broken, bytes(many), [0] * many), (2, 0, 0))
         self.assertEqual(self.refused(broken, bytes(3), [0] * 3), (4, 14, 0))
-        self.assertEqual(self.refused(DEFAULT, b"\x01\x00\x0e", [0] * 3), (5, 0, 1))
-        self.assertEqual(self.refused(DEFAULT, b"\x0d\x0e", [0] * 2), (5, 0, 1))
-        self.assertEqual(self.refused(DEFAULT, b"\x0d\x0d", [0, 1]), (6, 0, 1))
+        self.assertEqual(self.refused(OLD_DEFAULT, b"\x01\x00\x0e", [0] * 3), (5, 0, 1))
+        self.assertEqual(self.refused(OLD_DEFAULT, b"\x0d\x0e", [0] * 2), (5, 0, 1))
+        self.assertEqual(self.refused(OLD_DEFAULT, b"\x0d\x0d", [0, 1]), (6, 0, 1))
         self.assertEqual(self.refused(None, b"\x01\x0c\x00", [0] * 3), (6, 0, 1))
         self.assertEqual(self.refused(None, b"\x01\x0c", [0, 65_536]), (6, 0, 1))
 
@@ -297,19 +301,19 @@ class Corpus(unittest.TestCase):
     def test_bytes_and_parts(self):
         state = State(1, 2, 3, 4, 5, 6, 7, 8)
         given = [
-            ("admit", DEFAULT),
-            ("step", DEFAULT, state, 9, 10),
-            ("advance", DEFAULT, state, b"1234"),
+            ("admit", OLD_DEFAULT),
+            ("step", OLD_DEFAULT, state, 9, 10),
+            ("advance", OLD_DEFAULT, state, b"1234"),
             ("read", b"file"),
             ("judge", b"file"),
             ("line", b"file", b"buffer"),
             ("join", 1, 2, b"part", b"buffer"),
-            ("write", 1, DEFAULT, [3, 4], b"codes", b"buffer"),
-            ("manual", DEFAULT, b"12345678"),
-            ("block", DEFAULT, state, b"1234567"),
+            ("write", 1, OLD_DEFAULT, [3, 4], b"codes", b"buffer"),
+            ("manual", OLD_DEFAULT, b"12345678"),
+            ("block", OLD_DEFAULT, state, b"1234567"),
             ("list", b"file", b"buffer"),
             ("fetch", 11, b"list"),
-            ("extend", DEFAULT, state, 12, 13, b"1234567", b"buffer"),
+            ("extend", OLD_DEFAULT, state, 12, 13, b"1234567", b"buffer"),
         ]
         cases = [case_of(*case) for case in given]
         self.assertEqual([len(case.a) for case in cases], [44, 69, 68, 0, 0, 0, 16, 53, 44, 64, 0, 8, 76])
@@ -318,26 +322,27 @@ class Corpus(unittest.TestCase):
 
     def test_lines(self):
         lines = [
-            (case_of("admit", DEFAULT), "admit 0"),
-            (case_of("step", DEFAULT, State(phase=1, phase_time=2**32 - 1, stage=5), 9, 0),
+            (case_of("admit", OLD_DEFAULT), "admit 0"),
+            (case_of("step", OLD_DEFAULT, State(phase=1, phase_time=2**32 - 1, stage=5), 9, 0),
              "step 9 0 4294967446 0 0 1 4294967295 5 0 0 0"),
-            (case_of("advance", DEFAULT, START, b"\x02\0\0\0"), "advance 8 0 0 0 0 0 0 0 0 0 0"),
-            (case_of("read", b""), f"read 1 0 {' '.join(map(str, DEFAULT))} -"),
+            (case_of("advance", OLD_DEFAULT, START, b"\x02\0\0\0"), "advance 8 0 0 0 0 0 0 0 0 0 0"),
+            (case_of("read", b""), f"read 1 0 {' '.join(map(str, OLD_DEFAULT))} -"),
             (case_of("judge", written("1 t5")), "judge 0 0 2 0 5 0 1 0 1 0 0 0"),
             (case_of("judge", written("1 t5 t7")), "judge 12 0 2 7 5 0 1 0 1 0 0 0"),
             (case_of("line", b"", b"\xab"), "line 15 0 ab"),
             (case_of("join", 0, 0, b"\x01", b"\xff\xff"), "join 0 1 01ff"),
-            (case_of("write", 0, DEFAULT, [], b"", b""), "write 15 0 0 0 -"),
-            (case_of("manual", DEFAULT, b""), f"manual 0 0 0 0 01{'00' * 63}{' 0' * 34}{' 0' * 7} 0 0 0 0{' 0' * 8}"),
-            (case_of("manual", DEFAULT._replace(ChangeDL=1404), b"\x01\0\0\0"),
+            (case_of("write", 0, OLD_DEFAULT, [], b"", b""), "write 15 0 0 0 -"),
+            (case_of("manual", OLD_DEFAULT, b""),
+             f"manual 0 0 0 0 01{'00' * 63}{' 0' * 34}{' 0' * 7} 0 0 0 0{' 0' * 8}"),
+            (case_of("manual", OLD_DEFAULT._replace(ChangeDL=1404), b"\x01\0\0\0"),
              f"manual 4 14 0 0 01{'00' * 63}{' 0' * 34}{' 0' * 7} 4 14 0 0{' 0' * 8}"),
-            (case_of("manual", DEFAULT, b"\x0c\0\x07\0\x01\0\0\0\x0c\0\x02\0\x01\0\0\0"),
+            (case_of("manual", OLD_DEFAULT, b"\x0c\0\x07\0\x01\0\0\0\x0c\0\x02\0\x01\0\0\0"),
              f"manual 7 0 3 0 0101{'00' * 62} 9 7{' 0' * 32} 9 0 1 1 7 7 7 7 0 3 0 9 0 1 7 1 7 7 0"),
-            (case_of("manual", DEFAULT, b"\x01\0\0\0\x0c\0\x0f\0"),
+            (case_of("manual", OLD_DEFAULT, b"\x01\0\0\0\x0c\0\x0f\0"),
              f"manual 12 0 1 10 0101{'00' * 62}{' 0' * 34} 0 0 1 1 0 0 0 12 0 1 10 0 0 1 0 1 0 0 0"),
-            (case_of("manual", DEFAULT, b"123"), "bad"),
-            (case_of("block", DEFAULT, START, b"\x01\0\0\0\x0c\0\x05\0\x0c"), "block 0 0 2 0 5 0 1 0 1 0 0 0"),
-            (case_of("block", DEFAULT, START, b"\x01\0\0\0\x0c\0\x06\0"), "block 12 0 1 1 0 0 1 0 1 0 0 0"),
+            (case_of("manual", OLD_DEFAULT, b"123"), "bad"),
+            (case_of("block", OLD_DEFAULT, START, b"\x01\0\0\0\x0c\0\x05\0\x0c"), "block 0 0 2 0 5 0 1 0 1 0 0 0"),
+            (case_of("block", OLD_DEFAULT, START, b"\x01\0\0\0\x0c\0\x06\0"), "block 12 0 1 1 0 0 1 0 1 0 0 0"),
             (Case(10, bytes(63)), "bad"),
             (Case(10, bytes(64), b"", b"x"), "bad"),
             (case_of("list", written(""), b"x" * 9), "list 0 0 0 0 8 000000000800000078"),
@@ -350,9 +355,9 @@ class Corpus(unittest.TestCase):
             (Case(12, bytes(7)), "bad"),
             (Case(12, bytes(9)), "bad"),
             (Case(12, bytes(8), b"", b"x"), "bad"),
-            (case_of("extend", DEFAULT, START, 8, 0, b"\x01\0\0\0x", bytes.fromhex("0000000008000000" + "78" * 17)),
+            (case_of("extend", OLD_DEFAULT, START, 8, 0, b"\x01\0\0\0x", bytes.fromhex("0000000008000000" + "78" * 17)),
              f"extend 0 0 0 0 24 0100000008000000{'00' * 4}01{'00' * 11}78"),
-            (case_of("extend", DEFAULT, START, 8, 7, b"\x0c\0\1\0\x02\0\0\0", bytes.fromhex("0000000008000000")),
+            (case_of("extend", OLD_DEFAULT, START, 8, 7, b"\x0c\0\1\0\x02\0\0\0", bytes.fromhex("0000000008000000")),
              "extend 8 0 8 0 0 0000000008000000"),
             (Case(13, bytes(75)), "bad"),
             (Case(13, bytes(77)), "bad"),
@@ -365,7 +370,7 @@ class Corpus(unittest.TestCase):
         self.assertEqual([worked(case).line() for case, _ in lines], [text for _, text in lines])
 
     def test_what_ends_a_run(self):
-        good = case_of("admit", DEFAULT)
+        good = case_of("admit", OLD_DEFAULT)
         too_long = bytes((4, 0, 0, 0, 0)) + (66_001).to_bytes(4, "little") + bytes(4 + 66_001)
         for end in (b"\x01", packed(Case(14)), packed(Case(0)), packed(good)[:-1], too_long):
             self.assertEqual(list(cases_in(packed(good) + end)), [good, None])

@@ -14,7 +14,7 @@ from m9 import (
 from places import PLACES, place_of, ways
 from reached import SEARCHED, first_change, reached, stop
 from records import LISTED, good_amount, packed_steps
-from rules import DEFAULT, LAST_CLOCK, PHASES, Table
+from rules import LAST_CLOCK, OLD_DEFAULT, PHASES, Table
 from settlements import ADDED, DELAY_GUARDS, REQUESTED, SETTLED, SETTLED_ACTIONS, SETTLEMENTS
 from tables import good_table
 from test_files import K1, WOULD_NOT_CLOSE, lists
@@ -27,7 +27,7 @@ def steps(text):
     return list(zip(codes, amounts))
 
 
-def ran(text, machine=M9, table=DEFAULT):
+def ran(text, machine=M9, table=OLD_DEFAULT):
     """Number, records accepted and variables of a run."""
     number, _, accepted, _, variables = run(machine.step, START, table, packed_steps(steps(text)))
     return number, accepted, variables
@@ -35,7 +35,7 @@ def ran(text, machine=M9, table=DEFAULT):
 
 def over(text, machine=M9):
     """Number and excess of a run."""
-    number, _, _, excess, _ = run(machine.step, START, DEFAULT, packed_steps(steps(text)))
+    number, _, _, excess, _ = run(machine.step, START, OLD_DEFAULT, packed_steps(steps(text)))
     return number, excess
 
 
@@ -226,24 +226,24 @@ class KnownRuns(unittest.TestCase):
 
 class Refusals(unittest.TestCase):
     def test_table_then_code_then_amount_then_flags(self):
-        broken = DEFAULT._replace(ChangeDL=1404)
+        broken = OLD_DEFAULT._replace(ChangeDL=1404)
         self.assertEqual(m9.step(broken, START, 99, 99), (4, 14, 0, START))
         unread = (0, 9), (14, 0), (8, 1), (8, 0, 1), (12, 0), (13, 1), (13, 0, 1)
-        self.assertEqual([m9.step(DEFAULT, START, *given)[0] for given in unread], [5, 5, 6, 6, 6, 6, 6])
-        self.assertEqual(m9.step(DEFAULT, START, 13, 0)[0], 7)
-        self.assertEqual([m9.step(DEFAULT, START, code, 0)[0] for code in range(1, 12)], [0, 8, 8] + [7] * 8)
+        self.assertEqual([m9.step(OLD_DEFAULT, START, *given)[0] for given in unread], [5, 5, 6, 6, 6, 6, 6])
+        self.assertEqual(m9.step(OLD_DEFAULT, START, 13, 0)[0], 7)
+        self.assertEqual([m9.step(OLD_DEFAULT, START, code, 0)[0] for code in range(1, 12)], [0, 8, 8] + [7] * 8)
 
     def test_the_last_clock_comes_before_deadlines(self):
         late = {**START, "time": LAST_CLOCK, "RequestFromNeu": True}
-        self.assertEqual(m9.step(DEFAULT, late, 12, 1)[0], 13)
-        self.assertEqual(m9.step(DEFAULT, {**late, "time": LAST_CLOCK - 1}, 12, 1)[0], 12)
+        self.assertEqual(m9.step(OLD_DEFAULT, late, 12, 1)[0], 13)
+        self.assertEqual(m9.step(OLD_DEFAULT, {**late, "time": LAST_CLOCK - 1}, 12, 1)[0], 12)
         asked = {**late, "time": LAST_CLOCK - 1, "Engine_Request_SyncSpeed": True, "Engine_WaitForSyncClutch": True}
-        self.assertEqual(m9.step(DEFAULT, asked, 12, 1)[0], 11)
-        self.assertEqual(m9.step(DEFAULT, {**START, "time": LAST_CLOCK - 1}, 12, 1)[0], 0)
+        self.assertEqual(m9.step(OLD_DEFAULT, asked, 12, 1)[0], 11)
+        self.assertEqual(m9.step(OLD_DEFAULT, {**START, "time": LAST_CLOCK - 1}, 12, 1)[0], 0)
 
     def test_too_late_on_variables_that_no_run_reaches(self):
         good = {**START, "RequestFromNeu": True, "Engine_Request_SyncSpeed": True, "Engine_SyncSpeed": True}
-        self.assertEqual([m9.step(DEFAULT, {**good, "time": time}, 8, 0)[0] for time in (150, 151)], [0, 10])
+        self.assertEqual([m9.step(OLD_DEFAULT, {**good, "time": time}, 8, 0)[0] for time in (150, 151)], [0, 10])
 
     def test_how_far_over(self):
         for text, *answer in (
@@ -261,23 +261,23 @@ class Refusals(unittest.TestCase):
 
     def test_excesses_on_variables_that_no_run_reaches(self):
         late = {**START, "time": LAST_CLOCK, "RequestFromNeu": True}
-        self.assertEqual(m9.step(DEFAULT, late, 12, 9), (13, 0, 9, late))
+        self.assertEqual(m9.step(OLD_DEFAULT, late, 12, 9), (13, 0, 9, late))
         late["time"] -= 1
-        self.assertEqual(m9.step(DEFAULT, late, 12, 1), (12, 0, LAST_CLOCK - 5, late))
+        self.assertEqual(m9.step(OLD_DEFAULT, late, 12, 1), (12, 0, LAST_CLOCK - 5, late))
         late.update(Engine_Request_SyncSpeed=True, Engine_WaitForSyncClutch=True)
-        self.assertEqual(m9.step(DEFAULT, late, 12, 1), (11, 0, LAST_CLOCK - 155, late))
+        self.assertEqual(m9.step(OLD_DEFAULT, late, 12, 1), (11, 0, LAST_CLOCK - 155, late))
         early = {**late, "time": 0, "RequestFromNeuT": LAST_CLOCK}
-        self.assertEqual(m9.step(DEFAULT, early, 9, 0), (9, 0, LAST_CLOCK + 151, early))
+        self.assertEqual(m9.step(OLD_DEFAULT, early, 9, 0), (9, 0, LAST_CLOCK + 151, early))
         asked = {**START, "time": 170, "RequestFromNeu": True, "Engine_Request_SyncSpeed": True}
         good = {**asked, "Engine_SyncSpeed": True}
-        self.assertEqual(m9.step(DEFAULT, good, 8, 0), (10, 0, 20, good))
+        self.assertEqual(m9.step(OLD_DEFAULT, good, 8, 0), (10, 0, 20, good))
 
     def test_a_tick_gets_the_excess_of_the_first_guard_of_its_number(self):
         asked = {**START, "time": 300, "RequestFromNeu": True, "FromNeu_RequestOpenClutch": True,
                  "FromNeu_RequestOpenClutchT": 90}
-        passed = {deadline.label: excess for deadline, excess in M9.excesses(DEFAULT, asked, 1)}
+        passed = {deadline.label: excess for deadline, excess in M9.excesses(OLD_DEFAULT, asked, 1)}
         self.assertEqual(passed, {"grd3": 11, "grd23": 296, "grd29": 206})
-        self.assertEqual(m9.step(DEFAULT, asked, 12, 1), (12, 0, 296, asked))
+        self.assertEqual(m9.step(OLD_DEFAULT, asked, 12, 1), (12, 0, 296, asked))
 
     def test_what_is_refused_changes_nothing(self):
         for text in ("1 4 7 t150 9", "1 t6", "2", "1 1"):
@@ -316,7 +316,7 @@ class TheSearch(unittest.TestCase):
             self.assertEqual({place_of(variables) for variables, _ in reached(M9, table, ticks)}, set(ways()))
 
     def test_a_settlement_that_is_off_is_found(self):
-        table, ticks = SEARCHED["default"]
+        table, ticks = SEARCHED["old default"]
         states = list(reached(M9, table, ticks))
         delay, waits = SETTLEMENTS[:2]
         self.assertEqual(first_change(delay, table, states), (tuple(steps("1 4 7 t151 9")), 9, 0))
@@ -325,7 +325,7 @@ class TheSearch(unittest.TestCase):
         self.assertIsNone(stop(waits, table, ticks))
 
     def test_an_action_that_is_off_is_found_where_it_shows(self):
-        table, ticks = SEARCHED["default"]
+        table, ticks = SEARCHED["old default"]
         states = list(reached(M9, table, ticks))
         taken, closed = SETTLED_ACTIONS[:2]
         self.assertEqual(first_change(taken, table, states), (tuple(steps("1 4 7 t151 9 4 5 8 4 5 8")), 0, 0))
@@ -381,7 +381,7 @@ class BesideTheRules(unittest.TestCase):
         for request, shifts in ROUNDS.items():
             for shift in shifts:
                 variables = START
-                for given in timed(DEFAULT, lead(chance, request) + shift, mixed(chance)):
+                for given in timed(OLD_DEFAULT, lead(chance, request) + shift, mixed(chance)):
                     for events in M9.events.values():
                         self.assertLessEqual(sum(event.flags.met(variables) for event in events), 1)
-                    *_, variables = m9.step(DEFAULT, variables, *given)
+                    *_, variables = m9.step(OLD_DEFAULT, variables, *given)

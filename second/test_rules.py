@@ -3,21 +3,23 @@
 import unittest
 
 from rules import (
-    DEFAULT, ENGINE_PHASES, LAST_CLOCK, ORDERS, PHASES, START, State, Table, broken_rule, latest_clocks, route_sums,
-    step,
+    ENGINE_PHASES, LAST_CLOCK, NEW_DEFAULT, OLD_DEFAULT, ORDERS, PHASES, START, State, Table, broken_rule,
+    latest_clocks, route_sums, step,
 )
 
 
 class TheTable(unittest.TestCase):
-    def test_route_sums_of_the_default(self):
-        self.assertEqual(route_sums(DEFAULT), (905, 905, 1405, 1255))
+    def test_route_sums_of_the_old_and_the_new_default(self):
+        for table in (OLD_DEFAULT, NEW_DEFAULT):
+            self.assertEqual(route_sums(table), (905, 905, 1405, 1255))
 
-    def test_default_is_admitted(self):
-        self.assertEqual(broken_rule(DEFAULT), 0)
+    def test_the_old_and_the_new_default_are_admitted(self):
+        for table in (OLD_DEFAULT, NEW_DEFAULT):
+            self.assertEqual(broken_rule(table), 0)
 
     def test_k12(self):
-        self.assertEqual(broken_rule(DEFAULT._replace(ChangeDL=1404)), 14)
-        self.assertEqual(broken_rule(DEFAULT._replace(ChangeDL=1405)), 0)
+        self.assertEqual(broken_rule(OLD_DEFAULT._replace(ChangeDL=1404)), 14)
+        self.assertEqual(broken_rule(OLD_DEFAULT._replace(ChangeDL=1405)), 0)
 
     def test_each_rule_broken_by_one_and_just_kept(self):
         edges = [
@@ -35,18 +37,18 @@ class TheTable(unittest.TestCase):
             (14, "ChangeDL", 1404, 1405),
         ]
         for rule, name, broken, kept in edges:
-            self.assertEqual(broken_rule(DEFAULT._replace(**{name: broken})), rule)
-            self.assertEqual(broken_rule(DEFAULT._replace(**{name: kept})), 0)
+            self.assertEqual(broken_rule(OLD_DEFAULT._replace(**{name: broken})), rule)
+            self.assertEqual(broken_rule(OLD_DEFAULT._replace(**{name: kept})), 0)
 
     def test_route_rules_in_their_order(self):
-        long_zero = DEFAULT._replace(Zero_DL=1000)
+        long_zero = OLD_DEFAULT._replace(Zero_DL=1000)
         self.assertEqual(route_sums(long_zero), (905, 1650, 1405, 2000))
         given = [broken_rule(long_zero._replace(ChangeDL=most)) for most in (904, 905, 1649, 1650, 1999, 2000)]
         self.assertEqual(given, [12, 13, 13, 15, 15, 0])
 
     def test_sums_do_not_wrap(self):
-        self.assertEqual(broken_rule(DEFAULT._replace(Channel_DL=32_768)), 2)
-        self.assertEqual(broken_rule(DEFAULT._replace(Sync_DL=65_535)), 12)
+        self.assertEqual(broken_rule(OLD_DEFAULT._replace(Channel_DL=32_768)), 2)
+        self.assertEqual(broken_rule(OLD_DEFAULT._replace(Sync_DL=65_535)), 12)
 
 
 class ThePhases(unittest.TestCase):
@@ -62,7 +64,7 @@ class ThePhases(unittest.TestCase):
 
 
 class SingleSteps(unittest.TestCase):
-    def number(self, state, code, amount=0, table=DEFAULT):
+    def number(self, state, code, amount=0, table=OLD_DEFAULT):
         """The number of a step; one that is refused has to hand its state back, and only 9 to 13 have an excess."""
         number, _, excess, after = step(table, state, code, amount)
         self.assertTrue(number == 0 or after == state)
@@ -73,10 +75,10 @@ class SingleSteps(unittest.TestCase):
         good = State(phase=1, stage=3)
         self.assertEqual(self.number(good._replace(clock=150), 8), 0)
         self.assertEqual(self.number(good._replace(clock=151), 8), 10)
-        self.assertEqual(step(DEFAULT, good._replace(clock=151), 8, 0)[2], 1)
+        self.assertEqual(step(OLD_DEFAULT, good._replace(clock=151), 8, 0)[2], 1)
 
     def test_table_comes_first_and_gives_its_rule(self):
-        broken = DEFAULT._replace(ChangeDL=1404)
+        broken = OLD_DEFAULT._replace(ChangeDL=1404)
         wild = State(phase=99)
         self.assertEqual(step(broken, wild, 99, 99), (4, 14, 0, wild))
 
@@ -111,10 +113,10 @@ class SingleSteps(unittest.TestCase):
     def test_error_can_be_raised_in_an_engine_phase(self):
         failed = State(clock=9, phase=1, stage=4, request_time=2)
         after = State(clock=9, phase=23, phase_time=9, stage_time=9, request_time=2, failed_phase=1)
-        self.assertEqual(step(DEFAULT, failed, 10, 0), (0, 0, 0, after))
+        self.assertEqual(step(OLD_DEFAULT, failed, 10, 0), (0, 0, 0, after))
 
     def test_taking_set_makes_the_box_in_gear_and_taking_release_neutral(self):
-        boxes = {phase: [step(DEFAULT, State(phase=phase, stage=3, box=box), 8, 0)[-1].box for box in (0, 1)]
+        boxes = {phase: [step(OLD_DEFAULT, State(phase=phase, stage=3, box=box), 8, 0)[-1].box for box in (0, 1)]
                  for phase in PHASES}
         moved = {phase: after for phase, after in boxes.items() if after != [0, 1]}
         self.assertEqual(moved, {3: [1, 1], 4: [1, 1], 8: [0, 0], 9: [0, 0], 12: [1, 1], 13: [1, 1], 14: [1, 1],
@@ -127,20 +129,20 @@ class SingleSteps(unittest.TestCase):
         for code, phase, stage in steps + [(11, 22, 0), (12, 0, 0), (12, 3, 1), (12, 23, 0), (13, 23, 0)]:
             for box in (0, 1):
                 state = State(clock=251, phase=phase, phase_time=0 if code == 9 else 251, stage=stage, stage_time=251)
-                number, *_, after = step(DEFAULT, state._replace(box=box), code, int(code == 12))
+                number, *_, after = step(OLD_DEFAULT, state._replace(box=box), code, int(code == 12))
                 self.assertEqual((number, after.box), (0, box))
         for code, box in ((1, 0), (2, 1), (3, 1)):
-            self.assertEqual(step(DEFAULT, State(box=box), code, 0)[-1].box, box)
+            self.assertEqual(step(OLD_DEFAULT, State(box=box), code, 0)[-1].box, box)
 
     def test_finish_clears_request_time_and_failed_phase(self):
         done = State(clock=7, box=1, phase=22, phase_time=5, stage_time=5, request_time=3, failed_phase=9)
-        self.assertEqual(step(DEFAULT, done, 11, 0), (0, 0, 0, State(clock=7, box=1, phase_time=7, stage_time=7)))
+        self.assertEqual(step(OLD_DEFAULT, done, 11, 0), (0, 0, 0, State(clock=7, box=1, phase_time=7, stage_time=7)))
 
     def test_reset_enters_0_and_keeps_the_box(self):
         for box in (0, 1):
             error = State(7, box, 23, phase_time=5, stage=2, stage_time=4, request_time=3, failed_phase=9)
             at_rest = State(clock=7, box=box, phase_time=7, stage_time=7)
-            self.assertEqual(step(DEFAULT, error, 13, 0), (0, 0, 0, at_rest))
+            self.assertEqual(step(OLD_DEFAULT, error, 13, 0), (0, 0, 0, at_rest))
 
     def test_reset_in_error_alone(self):
         others = [State(phase=phase, stage=stage) for phase in range(23) for stage in range(6)]
@@ -165,7 +167,7 @@ class SingleSteps(unittest.TestCase):
 
 
 class HowFarOver(unittest.TestCase):
-    def assert_over(self, number, excess, code, amount=0, table=DEFAULT, **fields):
+    def assert_over(self, number, excess, code, amount=0, table=OLD_DEFAULT, **fields):
         """A step on the state of these fields is refused with this number, by so much."""
         state = State(**fields)
         self.assertEqual(step(table, state, code, amount), (number, 0, excess, state))
@@ -204,7 +206,7 @@ class HowFarOver(unittest.TestCase):
 
     def test_it_does_not_wrap(self):
         self.assert_over(9, LAST_CLOCK + 151, 9, clock=0, phase=1, phase_time=LAST_CLOCK, stage=5)
-        slow = DEFAULT._replace(Zero_DE=60_000, Zero_DL=60_000, ChangeDL=65_535)
+        slow = OLD_DEFAULT._replace(Zero_DE=60_000, Zero_DL=60_000, ChangeDL=65_535)
         self.assert_over(9, LAST_CLOCK + 60_000, 9, table=slow, phase=17, phase_time=LAST_CLOCK, stage=5)
         self.assert_over(12, LAST_CLOCK - 5, 12, 1, clock=LAST_CLOCK - 1, phase=1, stage=1)
         self.assert_over(11, LAST_CLOCK - 155, 12, 1, clock=LAST_CLOCK - 1, phase=1, stage=0)
@@ -212,11 +214,12 @@ class HowFarOver(unittest.TestCase):
     def test_no_other_answer_has_one(self):
         early = State(phase=1, stage=5, phase_time=LAST_CLOCK)
         for given, number in (
-            ((DEFAULT._replace(ChangeDL=1404), early, 9, 0), 4), ((DEFAULT, early, 14, 0), 5),
-            ((DEFAULT, early, 9, 1), 6), ((DEFAULT, early, 12, 65_536), 6),
-            ((DEFAULT, early._replace(stage=4), 9, 0), 7), ((DEFAULT, State(phase=24, clock=LAST_CLOCK), 12, 9), 7),
-            ((DEFAULT, START._replace(clock=9), 2, 0), 8), ((DEFAULT, START, 12, 65_535), 0),
-            ((DEFAULT, State(phase=1, clock=152, stage=5), 9, 0), 0),
+            ((OLD_DEFAULT._replace(ChangeDL=1404), early, 9, 0), 4), ((OLD_DEFAULT, early, 14, 0), 5),
+            ((OLD_DEFAULT, early, 9, 1), 6), ((OLD_DEFAULT, early, 12, 65_536), 6),
+            ((OLD_DEFAULT, early._replace(stage=4), 9, 0), 7),
+            ((OLD_DEFAULT, State(phase=24, clock=LAST_CLOCK), 12, 9), 7),
+            ((OLD_DEFAULT, START._replace(clock=9), 2, 0), 8), ((OLD_DEFAULT, START, 12, 65_535), 0),
+            ((OLD_DEFAULT, State(phase=1, clock=152, stage=5), 9, 0), 0),
         ):
             got, _, excess, _ = step(*given)
             self.assertEqual((got, excess), (number, 0))
@@ -224,6 +227,6 @@ class HowFarOver(unittest.TestCase):
     def test_each_limit_passed_by_one_and_by_more(self):
         for phase in PHASES:
             for stage, number in ((1, 12), (2, 12), (3, 12), (0, 11), (4, 11), (5, 11)):
-                latest = dict(latest_clocks(DEFAULT, State(phase=phase, stage=stage), 12))[number]
+                latest = dict(latest_clocks(OLD_DEFAULT, State(phase=phase, stage=stage), 12))[number]
                 for excess in (1, 2, 60_000):
                     self.assert_over(number, excess, 12, latest + excess, phase=phase, stage=stage)

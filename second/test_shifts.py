@@ -9,7 +9,7 @@ from extend_coverage import REASONS, reasons
 from extensions import cut_walk, extend_case
 from files import file_of, judge
 from records import packed_steps
-from rules import DEFAULT, START, State
+from rules import OLD_DEFAULT, START, State
 from shifts import Shift, build, entries_of, extend, fetch, list_of
 from tables import good_table
 from test_files import K1, WOULD_NOT_CLOSE, written
@@ -111,7 +111,7 @@ class Building(unittest.TestCase):
         self.assertEqual(build(written(""), b"x" * 8), (0, 0, 0, 0, 8, listed()))
 
     def test_files_that_are_not_read(self):
-        file = written(K1, DEFAULT)
+        file = written(K1, OLD_DEFAULT)
         broken = file[:46] + (1404).to_bytes(2, "little") + file[48:]
         for given, number, rule in ((b"", 1, 0), (bytes(12), 2, 0), (file[:-1], 3, 0), (broken, 4, 14)):
             self.assertEqual(build(given, b""), (number, rule, 0, 0, 0, b""))
@@ -153,7 +153,7 @@ class Extending(unittest.TestCase):
         self.assertEqual(number, 0)
         *_, length, held = build(written(before), bytes(999))
         buffer = held[:length] + b"x" * (len(wanted) + 5 - length)
-        self.assertEqual(extend(DEFAULT, state, length, count, records(text) + behind, buffer),
+        self.assertEqual(extend(OLD_DEFAULT, state, length, count, records(text) + behind, buffer),
                          (0, 0, 0, 0, len(wanted), wanted + b"x" * 5))
 
     def test_k1_at_every_place(self):
@@ -206,12 +206,12 @@ class RefusedExtensions(unittest.TestCase):
     # K1 up to its first working stage, and what fits it.
     STATE = State(clock=9, phase=1, phase_time=4, stage=2, stage_time=9, request_time=4)
     ENTRY = Shift(1, 3, 1, 0, 0, 4, 5)
-    BROKEN = DEFAULT._replace(ChangeDL=1404)
+    BROKEN = OLD_DEFAULT._replace(ChangeDL=1404)
 
     def numbers(self, **given):
         """Number, rule, index and excess of an extension of K1; where one of them is not 0, nothing changes."""
-        fields = {"table": DEFAULT, "state": self.STATE, "count": 4, "shifts": [self.ENTRY], "new": records("t100 5"),
-                  "head": None, "held": None, "room": 24, **given}
+        fields = {"table": OLD_DEFAULT, "state": self.STATE, "count": 4, "shifts": [self.ENTRY],
+                  "new": records("t100 5"), "head": None, "held": None, "room": 24, **given}
         held = listed(*fields["shifts"])
         buffer = ((fields["head"] or held[:8]) + held[8:] + bytes(99))[:fields["room"]]
         held = len(held) if fields["held"] is None else fields["held"]
@@ -290,11 +290,11 @@ class RefusedExtensions(unittest.TestCase):
             ("t4", "0900 0500 00 07 00 00 07000000 02000000"),
             ("t3 8 t9 11", "0900 0600 00 07 01 00 07000000 01000000"),
         ):
-            self.assertEqual(extend(DEFAULT, state, 40, 5, records(text), list_of(before + entry)),
+            self.assertEqual(extend(OLD_DEFAULT, state, 40, 5, records(text), list_of(before + entry)),
                              (0, 0, 0, 0, 40, list_of(before + bytes.fromhex(after))))
         asks = State(clock=200, phase=10, stage=5, request_time=200)
         entry = bytes.fromhex("0000 0400 03 07 00 00 c8000000 00000000")
-        self.assertEqual(extend(DEFAULT, asks, 24, 5, records("9"), list_of(entry))[5],
+        self.assertEqual(extend(OLD_DEFAULT, asks, 24, 5, records("9"), list_of(entry))[5],
                          list_of(bytes.fromhex("0000 0500 03 01 00 00 c8000000 00000000")))
 
     def test_the_reasons_of_the_coverage_are_this_program_s(self):

@@ -52,17 +52,17 @@ class Loading(unittest.TestCase):
 
     def test_a_wrong_version_beside_the_one_in_use(self):
         version = loaded("rules", RULE_8)
-        broken = rules.DEFAULT._replace(Sync_DE=150)
+        broken = rules.OLD_DEFAULT._replace(Sync_DE=150)
         self.assertEqual((version.broken_rule(broken), rules.broken_rule(broken)), (0, 8))
         self.assertIs(sys.modules["rules"], rules)
 
     def test_what_imports_it_has_the_wrong_version_too(self):
-        broken = rules.DEFAULT._replace(Sync_DE=150)
+        broken = rules.OLD_DEFAULT._replace(Sync_DE=150)
         self.assertEqual(loaded("files", RULE_8).write(broken, b"", [], bytes(48))[0], 0)
         self.assertEqual(loaded("files").write(broken, b"", [], bytes(48))[0], 4)
 
     def test_a_text_that_does_not_stand_there_once(self):
-        for old, places in (("no such text", 0), ("Channel_DL", 3)):
+        for old, places in (("no such text", 0), ("Channel_DL", 4)):
             with self.assertRaisesRegex(NoSuchPlace, f"{places} times"):
                 loaded("rules", Wrong("", "rules.py", old, ""))
         self.assertIs(sys.modules["rules"], rules)

@@ -9,6 +9,7 @@ from types import ModuleType
 from typing import NamedTuple
 
 from corpus import NUMBERS
+from wrong_defaults import WRONG_DEFAULTS
 from wrong_delays import WRONG_DELAYS
 from wrong_extends import WRONG_EXTENDS
 from wrong_files import WRONG_FILES
@@ -37,7 +38,7 @@ WRONG_VERSIONS = [
     *(Wrong(what, "files.py", old, new) for what, old, new in WRONG_FILES),
     *(Wrong(what, "shifts.py", old, new) for what, old, new in WRONG_SHIFTS + WRONG_EXTENDS),
     Wrong("the wish for none crossed", "corpus.py", "table if wish else None", "None if wish else table"),
-    *(Wrong(*wrong) for wrong in WRONG_M9 + WRONG_DELAYS),
+    *(Wrong(*wrong) for wrong in WRONG_M9 + WRONG_DELAYS + WRONG_DEFAULTS),
 ]
 
 

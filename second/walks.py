@@ -4,9 +4,10 @@ from functools import lru_cache
 from itertools import product
 
 from rules import (
-    ASK_CLUTCH, CLUTCH_PHASES, DEFAULT, DELIVER, DEVICE_FAILED, DEVICE_GOOD, DONE, ENGINE_WAITS, FINISH, FROM_NEUTRAL,
-    GEAR_TO_GEAR, IN_GEAR, LONGEST_TICK, NEUTRAL, PAST_PHASE_LIMIT, PAST_STAGE_LIMIT, PHASES, RAISE_ERROR, REQUESTS,
-    RESET, START, TAKE, TICK, TO_NEUTRAL, TOO_EARLY, WAITING, WORKING, admitted_step, earliest_clock, latest_clocks,
+    ASK_CLUTCH, CLUTCH_PHASES, DELIVER, DEVICE_FAILED, DEVICE_GOOD, DONE, ENGINE_WAITS, FINISH, FROM_NEUTRAL,
+    GEAR_TO_GEAR, IN_GEAR, LONGEST_TICK, NEUTRAL, OLD_DEFAULT, PAST_PHASE_LIMIT, PAST_STAGE_LIMIT, PHASES, RAISE_ERROR,
+    REQUESTS, RESET, START, TAKE, TICK, TO_NEUTRAL, TOO_EARLY, WAITING, WORKING, admitted_step, earliest_clock,
+    latest_clocks,
 )
 from search import NotFound
 
@@ -14,7 +15,7 @@ from search import NotFound
 LONG_WALK = 1_000
 
 # A table under which asking for the clutch can be early by five digits.
-SLOW = DEFAULT._replace(Sync_DE=12_000, Sync_DL=13_000, Zero_DE=14_000, Zero_DL=15_000, ChangeDL=20_000)
+SLOW = OLD_DEFAULT._replace(Sync_DE=12_000, Sync_DL=13_000, Zero_DE=14_000, Zero_DL=15_000, ChangeDL=20_000)
 
 
 def ways(phase, passed=()):
@@ -46,7 +47,7 @@ ROUNDS = {code: list(map(to_rest, shifts)) for code, shifts in SHIFTS.items()}
 def box_after(shift):
     """The box that a shift leaves."""
     before = () if shift[0] == FROM_NEUTRAL else FINISHED[FROM_NEUTRAL][0]
-    return states(DEFAULT, timed(DEFAULT, before + shift, min))[-1].box
+    return states(OLD_DEFAULT, timed(OLD_DEFAULT, before + shift, min))[-1].box
 
 
 def requests_at(box):

@@ -6,7 +6,7 @@ from buffers import NO_BUFFER, buffer_for
 from corpus import case_of
 from files import MOST_RECORDS, RECORD, file_of
 from records import EXTREME_AMOUNTS, LISTED, bad_amount, good_amount, unlisted_code, unlisted_codes
-from rules import DEFAULT
+from rules import NEW_DEFAULT
 from tables import RULES, admitted_table, any_table, broken_table, edge_tables, good_table
 
 NONE, A_TABLE = 0, 1
@@ -30,20 +30,20 @@ def with_fault(chance, codes, amounts, place):
 
 def written(chance, wish, table, codes, amounts, spare=0):
     """The lists, to be written into a buffer that has so many bytes to spare."""
-    file = file_of(table if wish else None, bytes(RECORD.size * len(codes)))
+    file = file_of(table if wish else NEW_DEFAULT, bytes(RECORD.size * len(codes)))
     return case_of("write", wish, table, amounts, codes, buffer_for(chance, len(file), spare))
 
 
 def refusals_in_order(chance):
     """Lists of equal length or not, a good table or not, a fault or none and room or none, in every pairing."""
-    for wish, longer, table, fault, spare in product(
-        (NONE, A_TABLE), (-1, 0, 1), (good_table, broken_table), (False, True), (-1, 0, 9, NO_BUFFER)
+    for longer, table, fault, spare in product(
+        (-1, 0, 1), (good_table, broken_table), (False, True), (-1, 0, 9, NO_BUFFER)
     ):
         codes, amounts = lists(chance, chance.randint(1, 9))
         if fault:
             codes, amounts = with_fault(chance, codes, amounts, chance.randrange(len(codes)))
         amounts = (amounts + [0])[:len(codes) + longer]
-        yield written(chance, wish, table(chance), codes, amounts, spare)
+        yield written(chance, A_TABLE, table(chance), codes, amounts, spare)
 
 
 def every_fault(chance):
@@ -58,9 +58,7 @@ def every_fault(chance):
 
 
 def every_table(chance):
-    """The default table, wished for or not, and tables at the edge of each rule."""
-    for wish in (NONE, A_TABLE):
-        yield written(chance, wish, DEFAULT, *lists(chance, 3))
+    """Tables at the edge of each rule."""
     for rule in RULES:
         for table in edge_tables(chance, rule):
             yield written(chance, A_TABLE, table, *lists(chance, 3))
@@ -69,16 +67,13 @@ def every_table(chance):
 def longest(chance):
     """The most records that a file can hold without delays and one more, with what else could be wrong."""
     codes, amounts = lists(chance, MOST_RECORDS)
-    # Where none is wished for, delays of the table do not count, nor that it is not admitted.
-    yield written(chance, NONE, edge_tables(chance, RULES[-1])[0], codes, amounts)
     yield written(chance, A_TABLE, admitted_table(chance), codes, amounts)
     yield written(chance, A_TABLE, admitted_table(chance), codes, amounts, spare=-1)
     yield written(chance, A_TABLE, admitted_table(chance), *with_fault(chance, codes, amounts, MOST_RECORDS - 1))
     codes, amounts = lists(chance, MOST_RECORDS + 1)
-    yield written(chance, NONE, good_table(chance), codes, amounts)
     yield written(chance, A_TABLE, admitted_table(chance), codes, amounts, spare=NO_BUFFER)
     yield written(chance, A_TABLE, broken_table(chance), *with_fault(chance, codes, amounts, 0), spare=NO_BUFFER)
-    yield written(chance, NONE, good_table(chance), codes, amounts[1:])
+    yield written(chance, A_TABLE, admitted_table(chance), codes, amounts[1:])
 
 
 def demanded(chance):

@@ -1,7 +1,7 @@
 """Wrong versions of request 6, the delays of clutches: what is wrong, the file, a text, and the text in its place."""
 
 from settlements import DELAY_GUARDS
-from wrong_files import NO_ENTRIES, RECORD_OFFSET
+from wrong_files import K_WRITTEN, RECORD_OFFSET
 from wrong_m9 import rewritten
 from wrong_rules import ALLOWED, GIVES, OVER, OVER_FIRST, PASSED, RULE, SLACKS, UNREAD, words
 
@@ -181,7 +181,6 @@ COUNTS, MOST = "k not in ENTRY_COUNTS or ", "return MOST_WITH_DELAYS if k == WIT
 TOO_MANY, MAXIMA = f"{RECORD_OFFSET}n > most_records(k):", "= 16_372, 16_370"
 HAS, ENTRIES = "len(entries) == 2 * k", "entries + bytes(ENTRIES.size - len(entries))"
 READ_RULE, RECORDS = "        rule = broken_rule(table)\n", "file[header_of(file).record_offset:]"
-WRITTEN = "return WITH_DELAYS if has_delays(table) else WITHOUT_DELAYS"
 MANY = "len(codes) > most_records(k_written(table))"
 PACKED = "ENTRIES.pack(*table)[:2 * k]"
 FOUR_ZEROS = "k == WITH_DELAYS and len(file) >= record_offset(k) and not has_delays(table_of(file))"
@@ -210,7 +209,7 @@ READER = [
     ("delays of 18 entries from the bytes of records", ENTRIES,
      "file[HEADER.size:][:ENTRIES.size].ljust(ENTRIES.size, b'\\0')"),
     ("delays of 18 entries are the house values", ENTRIES, f"(entries + {HOUSE})[:ENTRIES.size]"),
-    ("delays of no entries are the house values", "    return DEFAULT\n", "    return DEFAULT._replace("
+    ("delays of no entries are the house values", "    return OLD_DEFAULT\n", "    return OLD_DEFAULT._replace("
      "Clutch_Open_DE=20, Error_Clutch_Open_DE=60, Clutch_Close_DE=20, Error_Clutch_Close_DE=60)\n"),
     ("delays of 22 entries are 0", ENTRIES, "entries[:2 * WITHOUT_DELAYS] + bytes(8)"),
     ("delays of 22 entries crossed", ENTRIES, f"({ENTRIES})[:36] + ({ENTRIES})[40:] + ({ENTRIES})[36:40]"),
@@ -220,20 +219,19 @@ READER = [
 ]
 
 WRITER = [
-    ("a table is always written as 22 entries", WRITTEN, "return WITH_DELAYS"),
-    ("a table is always written as 18 entries", WRITTEN, "return WITHOUT_DELAYS"),
-    ("18 and 22 entries crossed", WRITTEN, "return WITHOUT_DELAYS if has_delays(table) else WITH_DELAYS"),
-    ("the wish for none is written as 22 entries", NO_ENTRIES, NO_ENTRIES.replace("0", "WITH_DELAYS")),
-    ("22 entries by the first delay", WRITTEN, WRITTEN.replace("has_delays(table)", "table.Clutch_Open_DE")),
-    ("22 entries by the plain delays", WRITTEN, WRITTEN.replace("has_delays(table)", "any(table[LIMITS::2])")),
-    ("22 entries by the last delay", WRITTEN, WRITTEN.replace("has_delays(table)", "table[-1]")),
-    ("22 entries where no delay is 0", WRITTEN, WRITTEN.replace("has_delays(table)", "all(table[LIMITS:])")),
+    ("a table is always written as 22 entries", K_WRITTEN, "return WITH_DELAYS"),
+    ("a table is always written as 18 entries", K_WRITTEN, "return WITHOUT_DELAYS"),
+    ("18 and 22 entries crossed", K_WRITTEN, "return WITHOUT_DELAYS if has_delays(table) else WITH_DELAYS"),
+    ("22 entries by the first delay", K_WRITTEN, K_WRITTEN.replace("has_delays(table)", "table.Clutch_Open_DE")),
+    ("22 entries by the plain delays", K_WRITTEN, K_WRITTEN.replace("has_delays(table)", "any(table[LIMITS::2])")),
+    ("22 entries by the last delay", K_WRITTEN, K_WRITTEN.replace("has_delays(table)", "table[-1]")),
+    ("22 entries where no delay is 0", K_WRITTEN, K_WRITTEN.replace("has_delays(table)", "all(table[LIMITS:])")),
     ("delays are written as zeros", PACKED, "(ENTRIES.pack(*table)[:36] + bytes(8))[:2 * k]"),
     ("16,372 records are written with delays", MANY, "len(codes) > MOST_RECORDS"),
     ("16,370 records are written at the most", MANY, "len(codes) > MOST_WITH_DELAYS"),
     ("the maximum to write is that of delays once the table is admitted", MANY,
-     "len(codes) > (MOST_RECORDS if table is None or broken_rule(table) else most_records(k_written(table)))"),
-    ("4 before 2 for delays", MANY, f"{MANY} and not (table and has_delays(table) and broken_rule(table))"),
+     "len(codes) > (MOST_RECORDS if broken_rule(table) else most_records(k_written(table)))"),
+    ("4 before 2 for delays", MANY, f"{MANY} and not (has_delays(table) and broken_rule(table))"),
 ]
 
 EXTENDING = [

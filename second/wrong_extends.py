@@ -73,8 +73,8 @@ REFUSALS = [
     ("14 before 3 of a list",
      *not_3_for("len(listed) > 23 and not fits(state, count, last_entry(listed))", "NOT_IN_LIST")),
     ("a record's own before 14", *before(JUDGED, FIT)),
-    ("a record's own before 4", ALL, ALL.replace(TABLE, "    from rules import DEFAULT\n" + JUDGED.replace(
-        "block(table", "block(DEFAULT if broken_rule(table) else table") + TABLE)),
+    ("a record's own before 4", ALL, ALL.replace(TABLE, "    from rules import OLD_DEFAULT\n" + JUDGED.replace(
+        "block(table", "block(OLD_DEFAULT if broken_rule(table) else table") + TABLE)),
     ("a record's own before the shifts' 2", *before(JUDGED, SHIFTS)),
     ("a record's own before the records' 2", *before(JUDGED, RECORDS)),
     ("a record's own before 1 to 3 of a list", *before(JUDGED, DAMAGED)),
@@ -313,7 +313,7 @@ LONGER_LISTS = [
      f"HEAD.pack(count_of({LONGER}) % 2**8, FIRST_ENTRY) + {LONGER}[HEAD.size:]"),
     ("new request times since the cut", LONGER, "list_of(entries + entries_of(shift._replace(request_time="
      "shift.request_time - state.clock) for shift in shifts_along(codes, states, count)))"),
-    ("new shifts under the default table", "    codes, states = along(table, state, records)\n",
+    ("new shifts under the old default", "    codes, states = along(table, state, records)\n",
      "    codes, states = along(type(table)(), state, records)\n"),
     ("the longer list goes on from the start state", "    codes, states = along(table, state, records)\n",
      "    codes, states = along(table, START, records)\n"),

@@ -72,7 +72,7 @@ JUDGE = [
     ("the first record is left out", PLACES, "range(RECORD.size, len(records), RECORD.size)"),
     ("the last record is left out", PLACES, "range(0, len(records) - RECORD.size, RECORD.size)"),
     ("judging goes on after a refusal", REFUSED, ""),
-    ("judging by the default table", JUDGED, "admitted_step(DEFAULT, state, *record(four))"),
+    ("judging by the old default", JUDGED, "admitted_step(OLD_DEFAULT, state, *record(four))"),
     ("judging from the box in gear", "    state = START\n", "    state = START._replace(box=1)\n"),
     ("only the first record is judged", JUDGED, f"{JUDGED} if state == START else (0, 0, state)"),
     ("judging ends at a reset", REFUSED, REFUSED.replace(":", " or four[0] == 13:")),
@@ -171,9 +171,9 @@ BLOCKS = [
     ("a block has at most 32 records", BLOCK, BLOCK.replace("whole", "whole[:32 * RECORD.size]")),
     ("a block has at most a file's records", BLOCK, BLOCK.replace("whole", "whole[:MOST_RECORDS * RECORD.size]")),
     ("a block begins at the start state", BLOCK, BLOCK.replace("state", "START")),
-    ("a block under the default table", BLOCK, BLOCK.replace("table", "DEFAULT")),
+    ("a block under the old default", BLOCK, BLOCK.replace("table", "OLD_DEFAULT")),
     ("a block under any table", BLOCK,
-     block_by(f"step(DEFAULT if {RULE} else table, state, code, amount, middle)")),
+     block_by(f"step(OLD_DEFAULT if {RULE} else table, state, code, amount, middle)")),
     ("a block leaves the middle byte out", BLOCK, block_by("step(table, state, code, amount)")),
     ("a block knows no reset", BLOCK,
      block_by("(5, 0, 0, state) if code == 13 else step(table, state, code, amount, middle)")),
@@ -299,12 +299,12 @@ LINE = [
 
 UNEQUAL, BROKEN = "if len(codes) != len(amounts)", "    if rule:\n"
 MANY = "if len(codes) > most_records(k_written(table))"
-FAULTY, BROKEN_TABLE = "any(map(unreadable, codes, amounts))", "(table and broken_rule(table))"
+FAULTY, BROKEN_TABLE = "any(map(unreadable, codes, amounts))", "broken_rule(table)"
 FULL = "(NO_ROOM, 0, 0, 0, buffer) if len(file_of(table, bytes(RECORD.size * len(codes)))) > len(buffer) else"
 ANSWER_3, ANSWER_2 = "WRONG_LENGTH, 0, 0, 0, buffer", "WRONG_HEADER, 0, 0, 0, buffer"
 ANSWER_4, ANSWER_5_6 = "NOT_ADMITTED, rule, 0, 0, buffer", "number, 0, index, 0, buffer"
-TABLE_RULE = "rule = 0 if table is None else broken_rule(table)"
-NO_ENTRIES = "    if table is None:\n        return 0\n"
+TABLE_RULE = "    rule = broken_rule(table)\n    if rule:\n"
+K_WRITTEN = "return WITH_DELAYS if has_delays(table) else WITHOUT_DELAYS"
 
 WRITER = [
     ("fewer amounts than codes", UNEQUAL, "if len(codes) < len(amounts)"),
@@ -322,8 +322,9 @@ WRITER = [
     ("15 before 4", ANSWER_4, f"{FULL} ({ANSWER_4})"),
     ("15 before 5 and 6", ANSWER_5_6, f"{FULL} ({ANSWER_5_6})"),
     ("4 without its rule of the writer", ANSWER_4, "NOT_ADMITTED, 0, 0, 0, buffer"),
-    ("the writer admits any table", TABLE_RULE, "rule = 0"),
-    ("the writer admits no table", TABLE_RULE, "rule = 0 if table is None else 1"),
+    ("the writer admits any table", TABLE_RULE, TABLE_RULE.replace("broken_rule(table)", "0")),
+    ("the writer admits no table", TABLE_RULE,
+     TABLE_RULE.replace("broken_rule(table)", "int(table is not NEW_DEFAULT)")),
     ("the index one more", ANSWER_5_6, "number, 0, index + 1, 0, buffer"),
     ("the index is always 0", ANSWER_5_6, "number, 0, 0, 0, buffer"),
     ("the last record with 5 or 6", "in enumerate(zip(codes, amounts)):",
@@ -334,11 +335,9 @@ WRITER = [
      "number = 0 if code == 13 and amount < 2**16 else unreadable(code, amount)"),
     ("the writer writes code 14", "number = unreadable(code, amount)",
      "number = 0 if (code, amount) == (14, 0) else unreadable(code, amount)"),
-    ("amounts are cut to 16 bits", TABLE_RULE, f"amounts = [amount % 2**16 for amount in amounts]\n    {TABLE_RULE}"),
+    ("amounts are cut to 16 bits", TABLE_RULE, f"    amounts = [amount % 2**16 for amount in amounts]\n{TABLE_RULE}"),
     ("a middle byte of 1 is written", "RECORD.pack(code, 0, amount)", "RECORD.pack(code, 1, amount)"),
-    ("the wish for none writes the default table", NO_ENTRIES, NO_ENTRIES.replace("0", "WITHOUT_DELAYS")),
-    ("the default table is not written", NO_ENTRIES, NO_ENTRIES.replace("is None", "in (None, DEFAULT)")),
-    ("no table is written", NO_ENTRIES, "    return 0\n"),
+    ("no table is written", K_WRITTEN, "return 0"),
     ("k is written in bytes", "HEADER.pack(HEADER.size, k,", "HEADER.pack(HEADER.size, 2 * k,"),
     ("n is written in bytes", "len(records) // RECORD.size) +", "len(records)) +"),
     ("n is written one more", "len(records) // RECORD.size) +", "len(records) // RECORD.size + 1) +"),

@@ -1,6 +1,6 @@
 """Wrong versions of rules.py, in the order of document 01: what is wrong, a text of it, and the text in its place."""
 
-from rules import DEFAULT
+from rules import OLD_DEFAULT
 
 
 def words(name):
@@ -40,14 +40,14 @@ def off_rules():
             yield f"rule {rule} {how}", "return f, n, g1, g2", f"return {sums}"
 
 
-def off_defaults():
-    """Each entry one more by default."""
-    for name, value in DEFAULT._asdict().items():
-        yield f"{name} one more by default", f"    {name}: int = {value}\n", f"    {name}: int = {value + 1}\n"
+def off_old_default():
+    """Each entry one more in the old default; but for Channel_DL, the new one has it from there."""
+    for name, value in OLD_DEFAULT._asdict().items():
+        yield f"{name} one more in the old default", f"    {name}: int = {value}\n", f"    {name}: int = {value + 1}\n"
 
 
 ADMISSION = [
-    *off_defaults(),
+    *off_old_default(),
     *off_rules(),
     ("rule 1 leaves Channel_DL out", SLACKS[1], "min(t[1:LIMITS]) - 1,"),
     ("rule 1 leaves ChangeDL out", SLACKS[1], "min(t[:LIMITS - 1]) - 1,"),

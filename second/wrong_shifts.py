@@ -186,7 +186,7 @@ BUILD = [
     ("index and excess crossed of a file without a list", *refused_with("number, rule, excess, accepted, 0")),
     ("the count for the index of a list", *built_with("number, 0, accepted * (number == 0), 0, length")),
     ("the count for the index with 15", *built_with("number, 0, accepted * (number > 0), 0, length")),
-    ("a list under the default table", BUILT, "shifts_along(*along(type(table)(), START, records), 0)"),
+    ("a list under the old default", BUILT, "shifts_along(*along(type(table)(), START, records), 0)"),
     ("the length without the list's header", *built_with("number, 0, 0, 0, max(0, length - HEAD.size)")),
     ("the count of shifts for the list's length", *built_with("number, 0, 0, 0, length // ENTRY.size")),
     ("the buffer for the list's length", *built_with("number, 0, 0, 0, length and len(buffer)")),

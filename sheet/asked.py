@@ -1,19 +1,24 @@
-"""The sheet's cells as the proved program answers them: next phases, limits, delays, errors, requests and ends step by step; the
-defaults."""
+"""The sheet's cells as the proved program answers them: next phases, limits, delays, errors, requests and ends step by step; the old
+default as a file without a table is read, and the new default as it is written at the wish for none."""
 
+import re
 from typing import NamedTuple
 
 from table import DONE, ERROR, rules
 
 # table.py makes the second program's folder known.
 from corpus import case_of, packed
-from files import HEADER
+from files import ENTRIES, HEADER, record_offset
 from program import printed
 
 # An admitted table in which no two limits of a column are equal, so that an entry taken for another shows.
-APART = rules.DEFAULT._replace(Engine_Zero_DL=202, Clutch_Open_DL=153, Clutch_Close_DL=144, Gear_Release_DL=206,
-                               OpenClutch_DL=203, CloseClutch_DL=196, ChangeDL=2000, Clutch_Open_DE=21, Error_Clutch_Open_DE=62,
-                               Clutch_Close_DE=23, Error_Clutch_Close_DE=64)
+APART = rules.OLD_DEFAULT._replace(Engine_Zero_DL=202, Clutch_Open_DL=153, Clutch_Close_DL=144, Gear_Release_DL=206,
+                                   OpenClutch_DL=203, CloseClutch_DL=196, ChangeDL=2000, Clutch_Open_DE=21, Error_Clutch_Open_DE=62,
+                                   Clutch_Close_DE=23, Error_Clutch_Close_DE=64)
+
+# The length and the header of a file with eighteen entries and no records.
+LENGTH = record_offset(rules.LIMITS)
+HEAD = HEADER.pack(HEADER.size, rules.LIMITS, LENGTH, 0)
 
 
 class Question(NamedTuple):
@@ -88,17 +93,41 @@ def questions(table):
     yield told("reset", rules.State(phase=ERROR), rules.RESET, rules.AT_REST)
 
 
+def asked_of_defaults():
+    """The cases that tell the old default and the new one: a file without a table is read, and one of no records is written at the wish
+    for none, with another table handed over."""
+    yield case_of("read", HEADER.pack(HEADER.size, 0, HEADER.size, 0))
+    yield case_of("write", 0, APART, [], b"", bytes(LENGTH))
+
+
+def entries_read(line):
+    """The entries in the answer of the reader, or nothing where it refuses the file."""
+    found = re.fullmatch(r"read 0 0((?: \d+){%d}) -" % len(rules.Table._fields), line)
+    return [int(entry) for entry in found.group(1).split()] if found else []
+
+
+def entries_written(line):
+    """The eighteen entries in the answer of the writer and four delays of 0, or nothing where it writes anything else."""
+    found = re.fullmatch(rf"write 0 0 0 {LENGTH} {HEAD.hex()}((?:[0-9a-f]{{4}}){{{rules.LIMITS}}})", line)
+    return list(ENTRIES.unpack(bytes.fromhex(found.group(1)).ljust(ENTRIES.size, b"\0"))) if found else []
+
+
+def default_facts(table, old, new):
+    """The entries of both defaults beside what the sheet says."""
+    for limit in (table.channel, *(limit for by_order in table.limits.values() for limit in by_order.values())):
+        for name, said, wanted in ("old", old, limit.old_default), ("new", new, limit.new_default):
+            yield f"the {name} default of {limit.name} is not {wanted}", said[limit.entry:limit.entry + 1] == [wanted]
+
+
 def facts(table, command):
     """What the program answers, beside what the sheet says: pairs of a complaint and whether there is none."""
     asked = list(questions(table))
     steps = [case_of("step", APART, each.state, each.code, each.amount) for each in asked]
-    empty = case_of("read", HEADER.pack(HEADER.size, 0, HEADER.size, 0))
-    lines, faults = printed(command, [packed(case) for case in (*steps, empty)])
+    lines, faults = printed(command, [packed(case) for case in (*steps, *asked_of_defaults())])
     for fault in faults:
         yield fault, False
-    default = lines[-1].split()[3:] if lines else []
-    for limit in (table.channel, *(limit for by_order in table.limits.values() for limit in by_order.values())):
-        yield f"the default of {limit.name} is not {limit.default}", default[limit.entry:limit.entry + 1] == [str(limit.default)]
+    *_, read, written = ["", "", *lines]
+    yield from default_facts(table, entries_read(read), entries_written(written))
     for each, line in zip(asked, lines):
         word, number, _, excess, _, _, phase, *_ = line.split() + 7 * ["nothing"]
         said, wanted = (number, excess, phase), (str(each.number), str(each.excess), str(each.phase))

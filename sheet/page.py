@@ -1,5 +1,5 @@
-"""The generated parts of docs/PHASES.md: the table of phases, the times of the engine's orders, the delays of the clutch's, and the
-kinds of shift."""
+"""The generated parts of docs/PHASES.md: the channel time of the old default, the table of phases, the times of the engine's orders, the
+delays of the clutch's, and the kinds of shift."""
 
 from table import sheet_rows
 
@@ -7,14 +7,20 @@ from pages import table_of
 
 
 def limit_text(limits, order):
-    """A limit by its entry, its name and its default."""
+    """A limit by its entry, its name and its value in the new default."""
     limit = limits.get(order)
-    return f"{limit.entry} {limit.name}, {limit.default} ms" if limit else ""
+    return f"{limit.entry} {limit.name}, {limit.new_default} ms" if limit else ""
 
 
 def delay_text(limits, order):
-    """A delay by its entry, its name and its default, with that of the house's table."""
+    """A delay by its entry, its name and its value in the new default, with that of the house's table."""
     return f"{limit_text(limits, order)} (house {limits[order].house} ms)"
+
+
+def old_default_text(channel):
+    """That a file without a table is judged with the old default, and with which channel time."""
+    return (f"A file without a table is judged with the old default, whose channel time, {channel.entry} {channel.name}, is "
+            f"{channel.old_default} ms and not {channel.new_default} ms;\nits other limits are those of the new default.")
 
 
 def joined(values, sign):
@@ -56,4 +62,4 @@ def parts(table, code):
                       ((order, delay_text(plain, order), delay_text(error, order)) for order in plain))
     kinds = table_of(("request", "kind", "first phase", "never older than, while unfinished"),
                      ((str(kind.request), kind.name, str(kind.first), f"{kind.sum} ms") for kind in table.kinds))
-    return {"phases": phases, "engine": engine, "clutch": clutch, "kinds": kinds}
+    return {"old default": old_default_text(table.channel), "phases": phases, "engine": engine, "clutch": clutch, "kinds": kinds}

@@ -127,8 +127,8 @@ class Picture:
         return TOP + DOWN * (len(ORDERS) if phase == DONE else self.places[phase].line)
 
     def limit(self, column, row):
-        """A limit of a phase's order by default."""
-        return self.table.limits[column][row.order].default
+        """A limit of a phase's order in the new default."""
+        return self.table.limits[column][row.order].new_default
 
     def phase(self, row):
         """The box of a phase, its limits, and the ways out of it."""
@@ -172,14 +172,16 @@ class Picture:
         """How to read a box, in the corner where no path is, and what an error leads to."""
         left, top, beside = edges(0, 0)[0], TOP - GAP - REQUEST_HEIGHT, edges(0, 0)[1] + 4
         example = next(row for row in self.table.rows if row.order and not row.clutch)
+        channel = self.table.channel
         yield from self.box(0, top, example, ("a", "b"))
         for x, y, said in [(beside, 10.9, "phase"), (beside, 19.6, "order"), (beside, 30.4, "limits, ms"),
-                           (left, 46, "a"), (left + 11, 46, "of the device"), (left, 57, "b"), (left + 11, 57, "of the phase"),
-                           (left, 68, "≤"), (left + 11, 68, "latest take"), (left, 79, "≥"), (left + 11, 79, "earliest ask"),
-                           (left + 11, 90, f"failed: {ERROR} error"), (left, 101, "ask: for the clutch"),
-                           (left, 112, f"message: {self.table.channel.default} ms"), (left, 123, "limits by default")]:
+                           (left, 45, "a"), (left + 11, 45, "of the device"), (left, 55.7, "b"), (left + 11, 55.7, "of the phase"),
+                           (left, 66.4, "≤"), (left + 11, 66.4, "latest take"), (left, 77.1, "≥"), (left + 11, 77.1, "earliest ask"),
+                           (left + 11, 87.8, f"failed: {ERROR} error"), (left, 98.5, "ask: for the clutch"),
+                           (left, 109.2, "limits: new default"), (left, 119.9, f"message: {channel.new_default} ms"),
+                           (left, 130.6, f"no table: {channel.old_default} ms")]:
             yield text(x, top + y, said, text_anchor="start")
-        yield from error_mark(left + 4.3, top + 86.8)
+        yield from error_mark(left + 4.3, top + 84.6)
         bar = self.top(DONE) + BAR + 3
         yield box(0, COLUMNS - 1, bar, BAR, stroke_dasharray="3 1.5", stroke_width=1.4)
         yield from error_mark(left + 10, bar + BAR / 2)
@@ -188,7 +190,7 @@ class Picture:
     def drawn(self):
         """The picture as SVG."""
         parts = [element("title", "The phases of a gear shift"),
-                 element("desc", "Three kinds of shift as paths from the request to done, with the limits by default in milliseconds"),
+                 element("desc", "Three kinds of shift as paths from the request to done, with the new default's limits in milliseconds"),
                  element("style", f"@page {{ size: {WIDTH}mm {HEIGHT}mm; margin: 0 }}"),
                  element("rect", width=WIDTH, height=HEIGHT, fill="white"),
                  text(WIDTH / 2, 23, "The phases of a gear shift", font_size=17, font_weight="bold"), *self.legend()]

@@ -25,11 +25,12 @@ class Unread(Exception):
 
 
 class Limit(NamedTuple):
-    """An entry of the limit table: its number, its name, and its value by default and in the house's table."""
+    """An entry of the limit table: its number, its name, and its values in the old default, the new default and the house's table."""
 
     entry: int
     name: str
-    default: int
+    old_default: int
+    new_default: int
     house: int
 
 
@@ -90,18 +91,22 @@ def fields(text):
 
 
 def entries(text):
-    """The entries, under the manual's names, by their names in the definitions. By default the delays are 0."""
+    """The entries, under the manual's names, by their names in the definitions. In both defaults the delays are 0."""
     names, delays = fields(text), listed(text, "delays")
-    defaults = numbers(found(r"^ +tableOf \(([^)]*)\)", text, "the default table").group(1))
-    house = numbers(found(r"^house = tableOf \(limits default \+\+ \(([^)]*)\)\)$", text, "the house's table").group(1))
+    old = numbers(found(r"^oldDefault =\n +tableOf \(([^)]*)\)$", text, "the old default").group(1))
+    entry, value = map(int, found(r"^newDefault = tableOf \(set \(limits oldDefault\) (\d+) (\d+)\)$", text, "the new default").groups())
+    house = numbers(found(r"^house = tableOf \(limits newDefault \+\+ \(([^)]*)\)\)$", text, "the house's table").group(1))
     if [name.replace("_", "") for name in names] != [name.replace("_", "").lower() for name in rules.Table._fields]:
         raise Unread("the entries are not those of the second program")
-    if len(defaults) + len(delays) != len(names):
-        raise Unread(f"the default table has {len(defaults)} entries, not {len(names) - len(delays)}")
+    if len(old) + len(delays) != len(names):
+        raise Unread(f"the old default has {len(old)} entries, not {len(names) - len(delays)}")
+    if names[entry:entry + 1] != ["channel_dl"] or value == old[entry]:
+        raise Unread("the two defaults don't differ in the channel's time alone, as the sheet says")
     if len(house) != len(delays):
         raise Unread(f"the house's table has {len(house)} delays, not {len(delays)}")
-    values = zip(rules.Table._fields, defaults + [0] * len(delays), defaults + house)
-    return {name: Limit(entry, *value) for entry, (name, value) in enumerate(zip(names, values))}
+    new, none = [*old[:entry], value, *old[entry + 1:]], [0] * len(delays)
+    values = zip(rules.Table._fields, old + none, new + none, new + house)
+    return {name: Limit(number, *value) for number, (name, value) in enumerate(zip(names, values))}
 
 
 def orders(text):
@@ -120,11 +125,13 @@ def rows(text):
 
 
 def kinds(text, limits, all_entries):
-    """The three kinds, with the sums under the default table."""
+    """The three kinds, with the sums under the new default."""
 
     def value(part):
-        """An entry's default, or the value of a sum that has a name."""
-        return all_entries[part].default if part in all_entries else total(found(rf"^{part} t = (.*?)$", limits, part).group(1))
+        """An entry of the new default, or the value of a sum that has a name."""
+        if part in all_entries:
+            return all_entries[part].new_default
+        return total(found(rf"^{part} t = (.*?)$", limits, part).group(1))
 
     def total(formula):
         """The value of a sum, or of the larger of two."""

@@ -25,7 +25,7 @@ static void judges_byte(const char *name, size_t at, unsigned byte, unsigned wan
 static void judging(void)
 {
     make(K1), judges("K1", 0);
-    make_with(normal, K1), judges("K1 with its table", 0);
+    make_with(old_default, K1), judges("K1 with its table", 0);
     make(""), judges("K2", 0);
     make("1 t5"), judges("K3 with 5", 0);
     make("1 t6"), judges("K3", 12);
@@ -49,8 +49,8 @@ static void judging(void)
     make_with(house, TO_OPEN " t59 6"), judges("9, failed to open too early", 9);
     make_with(house, TO_CLOSE " t19 5"), judges("9, closed too early", 9);
     make_with(house, TO_CLOSE " t59 6"), judges("9, failed to close too early", 9);
-    make_with(normal, TO_CLOSE " t19 5"), judges("the same without delays", 0);
-    make_with_22(normal, WOULD_NOT_CLOSE), judges("22 entries without delays", 0);
+    make_with(old_default, TO_CLOSE " t19 5"), judges("the same without delays", 0);
+    make_with_22(old_default, WOULD_NOT_CLOSE), judges("22 entries without delays", 0);
     make_with_22(house, WOULD_NOT_CLOSE), judges("22 entries with delays", 9);
     make_with(house_with(19, 20), K1), judges("rule 16", 4);
     make_with(house_with(19, 20), K1), made_length--, judges("3 before rule 16", 3);
@@ -87,7 +87,7 @@ static void judging(void)
         judges("so many entries", k == 18 || k == 22 ? 0 : 2);
     }
     make_with(house, K1), judges_byte("22 entries, record offset 48", 4, 48, 2);
-    make_with(normal, K1), judges_byte("18 entries, record offset 56", 4, 56, 2);
+    make_with(old_default, K1), judges_byte("18 entries, record offset 56", 4, 56, 2);
     make(K1), made_length--, judges("a byte too few", 3);
     make(K1), made[made_length++] = 0, judges("a byte too many", 3);
     make_with(with(0, 0), K1), made_length--, judges("3 before 4", 3);
@@ -104,17 +104,17 @@ static void judging(void)
     make(WOULD_NOT_CLOSE " 13"), judges_byte("a reset with an amount", made_length - 2, 1, 6);
     judges_byte("a reset with a middle byte", made_length - 3, 1, 6);
 
-    ticks(MUNASIREL_MOST_RECORDS, 65535), make_list(&normal), judges("the longest file", 0);
+    ticks(MUNASIREL_MOST_RECORDS, 65535), make_list(&old_default), judges("the longest file", 0);
     made[made_length++] = 0, judges("the longest file and a byte", 3);
     ticks(MUNASIREL_MOST_RECORDS, 65535), make_list(NULL), judges("the longest file without a table", 0);
     ticks(MUNASIREL_MOST_RECORDS + 1, 1), make_list(NULL), judges("16,373 records", 2);
     ticks(MUNASIREL_MOST_RECORDS_22, 65535), make_list(&house), judges("the longest file of 22 entries", 0);
     made[made_length++] = 0, judges("the longest file of 22 entries and a byte", 3);
-    ticks(MUNASIREL_MOST_RECORDS_22, 65535), make_entries(22, &normal), judges("the longest one without delays", 0);
+    ticks(MUNASIREL_MOST_RECORDS_22, 65535), make_entries(22, &old_default), judges("the longest one without delays", 0);
     for (steps = MUNASIREL_MOST_RECORDS_22 + 1; steps <= MUNASIREL_MOST_RECORDS; steps++) {
         make_list(&house), judges("too many records with 22 entries", 2);
-        make_entries(22, &normal), judges("too many with 22 entries and no delays", 2);
-        make_list(&normal), judges("as many with 18 entries", 0);
+        make_entries(22, &old_default), judges("too many with 22 entries and no delays", 2);
+        make_list(&old_default), judges("as many with 18 entries", 0);
     }
     memset(made, 0, sizeof made), made_length = 65537, judges("65,537 zero bytes", 2);
 }
@@ -141,7 +141,7 @@ static void giving(void)
     const munasirel_state start = S(0), shifted = S(410, 1, 0, 410, 0, 410, 0, 0), requested = S(0, 0, 1, 0, 1, 0, 0, 0);
     const munasirel_state ticked = S(7, 0, 0, 0, 0, 0, 0, 0);
     make(K1), gives("K1", 0, 0, 12, 0, shifted);
-    make_with(normal, K1), gives("K1 with its table", 0, 0, 12, 0, shifted);
+    make_with(old_default, K1), gives("K1 with its table", 0, 0, 12, 0, shifted);
     make(""), gives("K2", 0, 0, 0, 0, start);
     make("1 t5"), gives("K3 with 5", 0, 0, 2, 0, S(5, 0, 1, 0, 1, 0, 0, 0));
     make("1 t6"), gives("K3", 12, 0, 1, 1, requested);
@@ -156,6 +156,10 @@ static void giving(void)
     make(K11), gives("K11", 7, 0, 19, 0, S(410, 1, 23, 410, 0, 410, 410, 19));
     make_with(with(17, 1404), K1), gives("K12", 4, 14, 0, 0, start);
     make_with(with(17, 1405), K1), gives("K12 with 1,405", 0, 0, 12, 0, shifted);
+    make(BUS_OF_10_MS), gives("10 ms on the bus, no table", 12, 0, 1, 5, requested);
+    make_with(old_default, BUS_OF_10_MS), gives("10 ms on the bus, the old default", 12, 0, 1, 5, requested);
+    make_with(new_default, BUS_OF_10_MS), gives("10 ms on the bus, the new default", 0, 0, 13, 0, S(430, 1, 0, 430, 0, 430, 0, 0));
+    make_with(new_default, "1 t11"), gives("11 ms on the bus, the new default", 12, 0, 1, 1, requested);
     make(WOULD_NOT_CLOSE " t9 13 3"), gives("a reset", 0, 0, 17, 0, S(160, 1, 17, 160, 1, 160, 160, 0));
 
     /* What is unread gives the start. */
@@ -196,8 +200,9 @@ static void giving(void)
     make_with(house, TO_CLOSE " t59 6"), gives("9, failed to close too early", 9, 0, 17, 1, S(240, 1, 5, 176, 2, 181, 0, 0));
     make_with(house, TO_CLOSE " t60 6 10"), gives("failed to close in time", 0, 0, 19, 0, S(241, 1, 23, 241, 0, 241, 0, 5));
     make_with(house, DELAYED), gives("the house's delays", 0, 0, 20, 0, S(201, 1, 0, 201, 0, 201, 0, 0));
+    make_with(house, BUS_OF_10_MS), gives("10 ms on the bus, the house's table", 0, 0, 13, 0, S(430, 1, 0, 430, 0, 430, 0, 0));
     make_with(apart, TO_OPEN " t20 5"), gives("9, another open delay", 9, 0, 9, 1, S(176, 0, 2, 151, 2, 156, 0, 0));
-    make_with_22(normal, WOULD_NOT_CLOSE), gives("22 entries without delays", 0, 0, 14, 0, S(151, 1, 23, 151, 0, 151, 0, 5));
+    make_with_22(old_default, WOULD_NOT_CLOSE), gives("22 entries without delays", 0, 0, 14, 0, S(151, 1, 23, 151, 0, 151, 0, 5));
 
     /* 11: new clock - (phase time + phase limit). */
     make("t9 1 t5 4 7 t200"), gives("11 by more", 11, 0, 5, 50, S(14, 0, 1, 9, 5, 14, 9, 0));
@@ -215,9 +220,9 @@ static void giving(void)
     make_with(with(0, 6), "1 t8"), gives("12 under a looser table", 12, 0, 1, 2, requested);
     make_with(with(0, 4), "1 t8"), gives("12 under a tighter table", 12, 0, 1, 4, requested);
 
-    ticks(MUNASIREL_MOST_RECORDS, 65535), make_list(&normal);
+    ticks(MUNASIREL_MOST_RECORDS, 65535), make_list(&old_default);
     gives("the longest file", 0, 0, 16372, 0, S(1072939020, 0, 0, 0, 0, 0, 0, 0));
-    codes[steps - 2] = 1, amounts[steps - 2] = 0, make_list(&normal);
+    codes[steps - 2] = 1, amounts[steps - 2] = 0, make_list(&old_default);
     gives("its last tick over", 12, 0, 16371, 65530, S(1072807950, 0, 1, 1072807950, 1, 1072807950, 1072807950, 0));
 }
 
@@ -244,7 +249,8 @@ static void admitting(void)
         {"2, twice 32,768", 0, 32768, 2}, {"12, a sum above 16 bits", 9, 65535, 12},
         {"5, a sum above 16 bits", 4, 65530, 5},
     };
-    admits("the default", normal, 0);
+    admits("the old default", old_default, 0);
+    admits("the new default", new_default, 0);
     for (unsigned i = 0; i < 18; i++)
         admits("1, an entry of 0", with(i, 0), 1);
     for (size_t i = 0; i < sizeof one / sizeof *one; i++)
@@ -283,6 +289,40 @@ static void admitting(void)
     memset(&table, 0, sizeof table), admits("all 0", table, 1);
 }
 
+/* ---- the tables that have a name: munasirel_old_default, munasirel_new_default and munasirel_house */
+static munasirel_limits is_named(const char *name, munasirel_limits (*table)(void), munasirel_limits want)
+{
+    munasirel_limits odd;
+    memset(&odd, 77, sizeof odd);
+    fresh();
+    munasirel_limits *got = lend(&odd, sizeof odd);
+    *got = table();
+    check("table by name", name, "table", memcmp(got, &want, sizeof want) == 0);
+    check("table by name", name, "rule", munasirel_admit(*got) == 0);
+    check("table by name", name, "bytes", guarded());
+    return *got;
+}
+
+/* Two tables differ in these entries and in no other. */
+static void differ(const char *name, munasirel_limits a, munasirel_limits b, unsigned from, unsigned to)
+{
+    uint16_t of_a[22], of_b[22];
+    memcpy(of_a, &a, sizeof of_a);
+    memcpy(of_b, &b, sizeof of_b);
+    for (unsigned i = 0; i < 22; i++)
+        check("table by name", name, "entry", (of_a[i] != of_b[i]) == (i >= from && i <= to));
+}
+
+static void naming(void)
+{
+    munasirel_limits old_one = is_named("the old default", munasirel_old_default, old_default);
+    munasirel_limits new_one = is_named("the new default", munasirel_new_default, new_default);
+    munasirel_limits in_house = is_named("the house's", munasirel_house, house);
+    check("table by name", "both defaults", "channel times", old_one.channel_dl == 5 && new_one.channel_dl == 10);
+    differ("both defaults", old_one, new_one, 0, 0);
+    differ("the new default and the house's", new_one, in_house, 18, 21);
+}
+
 /* ---- munasirel_table, on the file made */
 static void tables(const char *name, munasirel_limits want)
 {
@@ -296,30 +336,28 @@ static void tables(const char *name, munasirel_limits want)
 static void tabling(void)
 {
     munasirel_limits odd = {1, 2, 3, 4, 5, 6, 7, 8, 9, 10, 11, 12, 13, 14, 15, 16, 17, 65534, 0, 0, 0, 0}, all = odd;
-    munasirel_limits in_house = munasirel_house();
-    check("house", "the house's table", "table", memcmp(&in_house, &house, sizeof house) == 0);
-    check("house", "the house's table", "rule", munasirel_admit(munasirel_house()) == 0);
     all.clutch_open_de = 18, all.error_clutch_open_de = 65535, all.clutch_close_de = 256, all.error_clutch_close_de = 21;
-    make(K1), tables("no entries", normal);
+    make(K1), tables("no entries", old_default);
     make_with(with(17, 4660), K1), tables("eighteen entries", with(17, 4660));
     make_with(odd, ""), tables("a table that is not admitted", odd);
     make_with(odd, ""), made[0] = 13, tables("a bad header", odd);
     make_with(odd, K1), made_length--, tables("a wrong length", odd);
-    make_with(odd, ""), made_length--, tables("47 bytes", normal);
-    make_with(odd, K1), made[2] = 17, tables("seventeen entries", normal);
+    make_with(odd, ""), made_length--, tables("47 bytes", old_default);
+    make_with(odd, K1), made[2] = 17, tables("seventeen entries", old_default);
     make_with(all, K1), tables("twenty-two entries", all);
     make_with(all, ""), tables("twenty-two entries and no record", all);
-    make_with(all, ""), made_length--, tables("55 bytes", normal);
+    make_with(all, ""), made_length--, tables("55 bytes", old_default);
     make_with(all, K1), made[2] = 18, tables("eighteen of twenty-two", odd);
-    make_with(all, ""), made_length = 48, tables("48 bytes and 22 entries", normal);
-    make_with(all, K1), made[3] = 1, tables("278 entries", normal);
+    make_with(all, ""), made_length = 48, tables("48 bytes and 22 entries", old_default);
+    make_with(all, K1), made[3] = 1, tables("278 entries", old_default);
     for (made[3] = 0, made[2] = 19; made[2] < 22; made[2]++)
-        tables("nineteen to twenty-one entries", normal);
-    make_with_22(normal, K1), tables("twenty-two entries without delays", normal);
+        tables("nineteen to twenty-one entries", old_default);
+    make_with_22(old_default, K1), tables("twenty-two entries without delays", old_default);
+    make_with(new_default, K1), tables("the new default", new_default);
     make_with(house, K1), tables("the house's table", house);
-    made_length = 11, tables("11 bytes", normal);
-    made_length = 3, tables("3 bytes", normal);
-    made_length = 0, tables("nothing", normal);
+    made_length = 11, tables("11 bytes", old_default);
+    made_length = 3, tables("3 bytes", old_default);
+    made_length = 0, tables("nothing", old_default);
 }
 
 /* ---- munasirel_line, on the file made, with so much room less or more than the line needs */
@@ -366,6 +404,8 @@ static void lining(void)
     make(WOULD_NOT_CLOSE " t9 13"), lines("and a reset", "accepted 16 0 160 0 1 0\n");
     make("13"), lines("a reset at rest", "refused 0 7 0 0 0 0\n");
     make("t0"), lines("a tick of 0", "refused 0 6 0 0 0 0\n");
+    make(BUS_OF_10_MS), lines("10 ms on the bus, no table", "refused 1 12 0 1 0 5\n");
+    make_with(new_default, BUS_OF_10_MS), lines("10 ms on the bus, the new default", "accepted 13 0 430 0 1 0\n");
     make_with(house, DELAYED), lines("the house's delays", "accepted 20 0 201 0 1 0\n");
     make_with(house, TO_OPEN " t19 5"), lines("opened too early", "refused 9 9 175 2 0 1\n");
     make_with(house, TO_CLOSE " t20 6"), lines("failed to close too early", "refused 17 9 201 5 1 40\n");
@@ -439,7 +479,8 @@ static void joining(void)
     }
 }
 
-/* ---- munasirel_write, of the list, with so many codes and amounts of it; room counts from the file's length */
+/* ---- munasirel_write, of the list, with so many codes and amounts of it; room counts from the file's length. At the wish for no
+ * table the file has the new default, whatever table is handed over */
 struct written { unsigned number; size_t index; unsigned rule; };
 
 static void writes(const char *name, const munasirel_limits *table, unsigned with_table, size_t code_count, size_t amount_count,
@@ -447,7 +488,7 @@ static void writes(const char *name, const munasirel_limits *table, unsigned wit
 {
     static uint8_t bytes[MUNASIREL_LONGEST_FILE + 64];
     size_t odd = 77, size, out_length;
-    make_list(with_table ? table : NULL);
+    make_list(with_table ? table : &new_default);
     size = want.number == 0 ? made_length : 0;
     out_length = made_length < sizeof bytes - 32 ? (size_t)((long)made_length + room) : 0;
     memset(bytes, 'x', sizeof bytes);
@@ -479,38 +520,34 @@ static void writing(void)
     const struct written good = {0, 0, 0}, full = {15, 0, 0}, unequal = {3, 0, 0}, many = {2, 0, 0};
     const munasirel_limits bad = with(17, 1404), worse = with(0, 0), bad_delays = house_with(19, 20);
     list(K1);
-    writes_all("K1 with a table", &normal, 1, 0, good);
-    writes_all("K1 with a table, more room", &normal, 255, 9, good);
-    writes_all("K1 without a table", &normal, 0, 0, good);
-    writes_all("K1 without a table, more room", &normal, 0, 9, good);
-    writes_all("no table, a bad one not looked at", &bad, 0, 0, good);
-    writes_all("15 with a table", &normal, 1, -1, full);
-    writes_all("15 without a table", &normal, 0, -1, full);
-    writes_all("15, no room at all", &normal, 0, -60, full);
+    writes_all("K1 with a table", &old_default, 1, 0, good);
+    writes_all("K1 with a table, more room", &old_default, 255, 9, good);
+    writes_all("K1 with the new default", &new_default, 1, 0, good);
+    writes_all("15 with a table", &old_default, 1, -1, full);
+    writes_all("15, no room at all", &old_default, 1, -96, full);
     writes_all("4", &bad, 1, 0, (struct written){4, 0, 14});
     writes_all("4 before 15", &worse, 1, -90, (struct written){4, 0, 1});
-    writes("3, fewer amounts", &normal, 1, steps, steps - 1, 0, unequal);
-    writes("3, fewer codes", &normal, 0, steps - 1, steps, 0, unequal);
-    writes("3, no amounts", &normal, 0, steps, 0, 0, unequal);
+    writes("3, fewer amounts", &old_default, 1, steps, steps - 1, 0, unequal);
+    writes("3, fewer codes", &old_default, 0, steps - 1, steps, 0, unequal);
+    writes("3, no amounts", &old_default, 0, steps, 0, 0, unequal);
     writes("3 before 4 and 15", &bad, 1, 0, steps, -90, unequal);
-    list("14"), writes("3 before 5", &normal, 0, 1, 0, 0, unequal);
-    list(""), writes_all("no steps", &normal, 0, 0, good);
-    list(""), writes_all("no steps, a table", &normal, 1, 0, good);
-    list(""), writes_all("no steps, 11 bytes", &normal, 0, -1, full);
-    list("1 14 4"), writes_all("5", &normal, 1, 0, (struct written){5, 1, 0});
-    list("0"), writes_all("5, code 0", &normal, 0, 0, (struct written){5, 0, 0});
-    list("1 4 255"), writes_all("5 before 15", &normal, 0, -5, (struct written){5, 2, 0});
+    list("14"), writes("3 before 5", &old_default, 0, 1, 0, 0, unequal);
+    list(""), writes_all("no steps", &old_default, 1, 0, good);
+    list(""), writes_all("no steps, 47 bytes", &old_default, 1, -1, full);
+    list("1 14 4"), writes_all("5", &old_default, 1, 0, (struct written){5, 1, 0});
+    list("0"), writes_all("5, code 0", &old_default, 0, 0, (struct written){5, 0, 0});
+    list("1 4 255"), writes_all("5 before 15", &old_default, 0, -5, (struct written){5, 2, 0});
     list("14"), writes_all("4 before 5", &bad, 1, 0, (struct written){4, 0, 14});
-    list("t65535"), writes_all("the largest tick", &normal, 0, 0, good);
-    list("1 t65536"), writes_all("6, a tick too large", &normal, 0, 0, (struct written){6, 1, 0});
-    list("t4294967295"), writes_all("6, the largest amount", &normal, 0, 0, (struct written){6, 0, 0});
-    list("4 5 t0 14"), writes_all("6, a tick of 0, before a later 5", &normal, 1, 0, (struct written){6, 2, 0});
-    list("4 5 14 t0"), writes_all("5 before a later 6", &normal, 1, -1, (struct written){5, 2, 0});
-    list("1 2 3 11"), amounts[3] = 1, writes_all("6, an amount for a finish", &normal, 0, 0, (struct written){6, 3, 0});
-    list("14"), amounts[0] = 1, writes_all("5 before 6 in one record", &normal, 0, 0, (struct written){5, 0, 0});
-    list("1 13"), amounts[1] = 1, writes_all("6, an amount for a reset", &normal, 0, 0, (struct written){6, 1, 0});
-    list(WOULD_NOT_CLOSE " t9 13 3"), writes_all("a reset", &normal, 1, 0, good);
-    list("2 1 1 10 13"), writes_all("steps that the judge refuses", &normal, 1, 0, good);
+    list("t65535"), writes_all("the largest tick", &old_default, 0, 0, good);
+    list("1 t65536"), writes_all("6, a tick too large", &old_default, 0, 0, (struct written){6, 1, 0});
+    list("t4294967295"), writes_all("6, the largest amount", &old_default, 0, 0, (struct written){6, 0, 0});
+    list("4 5 t0 14"), writes_all("6, a tick of 0, before a later 5", &old_default, 1, 0, (struct written){6, 2, 0});
+    list("4 5 14 t0"), writes_all("5 before a later 6", &old_default, 1, -1, (struct written){5, 2, 0});
+    list("1 2 3 11"), amounts[3] = 1, writes_all("6, an amount for a finish", &old_default, 0, 0, (struct written){6, 3, 0});
+    list("14"), amounts[0] = 1, writes_all("5 before 6 in one record", &old_default, 0, 0, (struct written){5, 0, 0});
+    list("1 13"), amounts[1] = 1, writes_all("6, an amount for a reset", &old_default, 0, 0, (struct written){6, 1, 0});
+    list(WOULD_NOT_CLOSE " t9 13 3"), writes_all("a reset", &old_default, 1, 0, good);
+    list("2 1 1 10 13"), writes_all("steps that the judge refuses", &old_default, 1, 0, good);
 
     /* A table with a delay is written as twenty-two entries, any other as eighteen. */
     list(K1);
@@ -518,29 +555,21 @@ static void writing(void)
     writes_all("the house's table, more room", &house, 1, 9, good);
     writes_all("the house's table, 15", &house, 1, -1, full);
     writes_all("the house's table, room for eighteen entries", &house, 1, -8, full);
-    writes_all("the house's table, not wished for", &house, 0, 0, good);
     writes_all("rule 16", &bad_delays, 1, 0, (struct written){4, 0, 16});
-    writes_all("rule 16, not looked at", &bad_delays, 0, 0, good);
-    make_with_22(normal, K1);
+    make_with_22(old_default, K1);
     munasirel_limits read = munasirel_table(made, made_length);
     writes_all("22 entries without delays, written back", &read, 1, 0, good);
     check("write", "22 entries without delays, written back", "entries", made[2] == 18 && made[4] == 48);
     list(K1), make_list(&house), check("write", "the house's table", "entries", made[2] == 22 && made[4] == 56);
 
-    list("1 t300");
-    writes_all("two steps", &normal, 0, 0, good);
-    static const uint8_t two[] = {12, 0, 0, 0, 12, 0, 0, 0, 2, 0, 0, 0, 1, 0, 0, 0, 12, 0, 44, 1};
-    check("write", "two steps", "bytes of the file maker", made_length == sizeof two && memcmp(made, two, sizeof two) == 0);
-
     ticks(MUNASIREL_MOST_RECORDS, 65535);
-    writes_all("the longest file", &normal, 1, 0, good);
-    writes_all("the longest file, no table", &normal, 0, 0, good);
-    writes_all("the longest file, 15", &normal, 1, -1, full);
+    writes_all("the longest file", &old_default, 1, 0, good);
+    writes_all("the longest file, 15", &old_default, 1, -1, full);
     steps++, codes[steps - 1] = 12, amounts[steps - 1] = 1;
-    writes_all("2", &normal, 0, 0, many);
+    writes_all("2", &old_default, 0, 0, many);
     writes_all("2 before 4", &bad, 1, 0, many);
-    writes("3 before 2", &normal, 0, steps, steps - 1, 0, unequal);
-    codes[0] = 14, writes_all("2 before 5", &normal, 0, -9, many);
+    writes("3 before 2", &old_default, 0, steps, steps - 1, 0, unequal);
+    codes[0] = 14, writes_all("2 before 5", &old_default, 0, -9, many);
 
     /* The most records go by how the table would be written, admitted or not. */
     const munasirel_limits bad_in_22 = house_with(17, 1404);
@@ -558,9 +587,95 @@ static void writing(void)
         writes_all("2, the house's table", &house, 1, 0, many);
         writes_all("2 before 4, rule 16", &bad_delays, 1, 0, many);
         writes_all("2 before 4, rule 14", &bad_in_22, 1, 0, many);
-        writes_all("the house's table, not wished for, as many", &house, 0, 0, good);
+        writes_all("the house's table with the wish for none, as many", &house, 0, 0, good);
         writes_all("4 without delays, as many", &bad, 1, 0, (struct written){4, 0, 14});
         writes("3 before 2, the house's table", &house, 1, steps, steps - 1, 0, unequal);
+    }
+}
+
+/* What is written of the list, with this table handed over, takes the place of the file made. */
+static void write_made(munasirel_limits table, uint8_t with_table)
+{
+    size_t index;
+    uint8_t rule;
+    munasirel_write(table, with_table, codes, steps, amounts, steps, made, sizeof made, &made_length, &index, &rule);
+}
+
+/* The list with the wish for no table: in just the room, in more, in a byte less, in the 36 bytes less that a file without a table
+ * takes, around that, in no more than a header, and in next to no room and none. */
+static void wishing_for_none(const char *name, const munasirel_limits *table)
+{
+    const struct written good = {0, 0, 0}, full = {15, 0, 0};
+    const int all = 48 + 4 * (int)steps;
+    writes_all(name, table, 0, 0, good);
+    check("write", name, "bytes by the file maker", made_length == (size_t)all);
+    writes_all(name, table, 0, 1, good);
+    writes_all(name, table, 0, 20, good);
+    writes_all(name, table, 0, -1, full);
+    writes_all(name, table, 0, -35, full);
+    writes_all(name, table, 0, -36, full);
+    writes_all(name, table, 0, -37, full);
+    writes_all(name, table, 0, 12 - all, full);
+    writes_all(name, table, 0, 1 - all, full);
+    writes_all(name, table, 0, -all, full);
+}
+
+static void writing_none(void)
+{
+    /* The table handed over is not looked at, whether it is admitted, and by how many entries it would be written. */
+    const struct { const char *name; munasirel_limits table; } handed[] = {
+        {"none, the old default handed over", old_default}, {"none, the new default handed over", new_default},
+        {"none, rule 14", with(17, 1404)},                  {"none, rule 1", with(0, 0)},
+        {"none, the house's table", house},                 {"none, rule 16", house_with(19, 20)},
+        {"none, one delay alone", with(18, 1)},             {"none, rule 1 and delays", house_with(0, 0)},
+    };
+    for (size_t i = 0; i < sizeof handed / sizeof *handed; i++) {
+        list(K1), wishing_for_none(handed[i].name, &handed[i].table);
+        list(""), wishing_for_none(handed[i].name, &handed[i].table);
+        list(BUS_OF_10_MS), wishing_for_none(handed[i].name, &handed[i].table);
+    }
+    ticks(MUNASIREL_MOST_RECORDS, 65535), wishing_for_none("none, the longest file", &old_default);
+    check("write", "none, the longest file", "length", made_length == MUNASIREL_LONGEST_FILE);
+
+    /* Byte by byte, beside the file of the same steps without a table, which the library writes no more. */
+    static const uint8_t two[] = {12,  0, 18,  0, 48,  0, 0,   0, 2,   0, 0,   0, 10,  0, 100, 0, 200, 0, 150, 0, 150, 0,
+                                  44,  1, 200, 0, 150, 0, 250, 0, 155, 0, 255, 0, 151, 0, 251, 0, 200, 0, 94,  1, 250, 0,
+                                  200, 0, 220, 5, 1,   0, 0,   0, 12,  0, 44,  1};
+    static const uint8_t without[] = {12, 0, 0, 0, 12, 0, 0, 0, 2, 0, 0, 0, 1, 0, 0, 0, 12, 0, 44, 1};
+    list("1 t300"), writes_all("none, two steps", &house, 0, 0, (struct written){0, 0, 0});
+    check("write", "none, two steps", "bytes of the file maker", made_length == sizeof two && memcmp(made, two, sizeof two) == 0);
+    memset(made, 0, sizeof two), write_made(with(0, 0), 0);
+    check("write", "none, two steps", "bytes", made_length == sizeof two && memcmp(made, two, sizeof two) == 0);
+    make_list(NULL);
+    check("write", "no table", "bytes of the file maker",
+          made_length == sizeof without && memcmp(made, without, sizeof without) == 0);
+
+    /* Read back and judged. */
+    const munasirel_state driven = S(430, 1, 0, 430, 0, 430, 0, 0), requested = S(0, 0, 1, 0, 1, 0, 0, 0);
+    list(BUS_OF_10_MS), write_made(with(17, 1404), 0);
+    tables("written with the wish for none", new_default);
+    judges("written with the wish for none", 0);
+    gives("written with the wish for none", 0, 0, 13, 0, driven);
+    lines("written with the wish for none", "accepted 13 0 430 0 1 0\n");
+    write_made(munasirel_old_default(), 1);
+    tables("written with the old default", old_default);
+    gives("written with the old default", 12, 0, 1, 5, requested);
+    write_made(munasirel_new_default(), 1), gives("written with the new default", 0, 0, 13, 0, driven);
+    make(BUS_OF_10_MS);
+    tables("a file without a table", old_default);
+    judges("a file without a table", 12);
+    gives("a file without a table", 12, 0, 1, 5, requested);
+    list("1 t11"), write_made(old_default, 0), gives("12, written with the wish for none", 12, 0, 1, 1, requested);
+
+    /* What is accepted without a table is accepted with the new default, and ends alike. */
+    const char *const runs[] = {
+        K1, "", "1 t5", "1 4 7 t151 9", "1 4 7 t155", DELAYED, IN_GEAR " 3 4 7 t251 9", WOULD_NOT_CLOSE " t9 13 3",
+    };
+    for (size_t i = 0; i < sizeof runs / sizeof *runs; i++) {
+        make(runs[i]);
+        munasirel_judged before_it = munasirel_verdict(made, made_length);
+        check("write", runs[i], "verdict without a table", before_it.number == 0 && before_it.accepted == steps);
+        write_made(old_default, 0), gives(runs[i], 0, 0, steps, 0, before_it.state);
     }
 }
 
@@ -611,18 +726,18 @@ static void advances(const char *name, munasirel_limits table, munasirel_state f
 
 static void takes(const char *name, munasirel_state from, unsigned code, unsigned amount, munasirel_state to)
 {
-    advances(name, normal, from, code, 0, amount, 0, 0, to);
+    advances(name, old_default, from, code, 0, amount, 0, 0, to);
 }
 
 static void refuses(const char *name, munasirel_state from, unsigned code, unsigned amount, unsigned want)
 {
-    advances(name, normal, from, code, 0, amount, want, 0, from);
+    advances(name, old_default, from, code, 0, amount, want, 0, from);
 }
 
 /* Refused with 9 to 13. */
 static void refuses_over(const char *name, munasirel_state from, unsigned code, unsigned amount, unsigned want, uint64_t excess)
 {
-    advances(name, normal, from, code, 0, amount, want, excess, from);
+    advances(name, old_default, from, code, 0, amount, want, excess, from);
 }
 
 /* Where single calls from a state come to over the first so many records of the list, up to the first that is refused. */
@@ -669,14 +784,14 @@ static void walks(const char *name, munasirel_state from, const char *text, cons
     list(text);
     for (size_t i = 0; i < steps; i++) {
         uint8_t low = (uint8_t)(amounts[i] % 256), high = (uint8_t)(amounts[i] / 256);
-        good &= munasirel_advance(state, normal, codes[i], 0, low, high, excess) == 0 && *excess == 0;
+        good &= munasirel_advance(state, old_default, codes[i], 0, low, high, excess) == 0 && *excess == 0;
         good &= state->phase == phases[i] && state->gear_box == boxes[i] - '0';
     }
     check("advance", name, "numbers, excesses, phases or boxes", good && strlen(boxes) == steps);
     check("advance", name, "end", same_state(state, &to));
     check("advance", name, "bytes", guarded());
-    cuts(name, normal, from);
-    cut(0, steps), blocks(name, normal, from, 0, steps, to);
+    cuts(name, old_default, from);
+    cut(0, steps), blocks(name, old_default, from, 0, steps, to);
 }
 
 static void advancing_runs(void)
@@ -750,14 +865,14 @@ static void advancing_steps(void)
     refuses("5, code 0", rest, 0, 0, 5);
     refuses("5, code 14", rest, 14, 0, 5);
     refuses("5, code 255, before 6 and 7", odd, 255, 9, 5);
-    advances("5 before 6 for a middle byte", normal, rest, 14, 1, 0, 5, 0, rest);
-    advances("6, a middle byte", normal, rest, 1, 1, 0, 6, 0, rest);
-    advances("6, a middle byte of a tick", normal, rest, 12, 128, 5, 6, 0, rest);
+    advances("5 before 6 for a middle byte", old_default, rest, 14, 1, 0, 5, 0, rest);
+    advances("6, a middle byte", old_default, rest, 1, 1, 0, 6, 0, rest);
+    advances("6, a middle byte of a tick", old_default, rest, 12, 128, 5, 6, 0, rest);
     for (unsigned code = 1; code < 14; code += code == 11 ? 2 : 1) {
         refuses("6, a low amount", code == 13 ? broken : rest, code, 1, 6);
         refuses("6, a high amount", code == 13 ? broken : rest, code, 256, 6);
     }
-    advances("6, a middle byte of a reset", normal, broken, 13, 1, 0, 6, 0, broken);
+    advances("6, a middle byte of a reset", old_default, broken, 13, 1, 0, 6, 0, broken);
     refuses("6, a tick of 0, before 7", odd, 12, 0, 6);
     refuses("7, phase 24", S(0, 0, 24, 0, 0, 0, 0, 0), 12, 1, 7);
     refuses("7, phase 255", S(0, 0, 255, 0, 0, 0, 0, 0), 1, 0, 7);
@@ -953,88 +1068,96 @@ static void advancing_blocks(void)
     const munasirel_state requested = S(7, 0, 1, 7, 1, 7, 7, 0);
     const munasirel_state late = S(4294901755, 1, 23, 1, 0, 2, 3, 4), latest = S(4294967295, 1, 23, 1, 0, 2, 3, 4);
     const munasirel_limits bad = with(17, 1404);
-    make_block(K1), blocks("K1", normal, rest, 0, 12, shifted);
-    make_block(K11), blocks("K11", normal, rest, 7, 19, k11);
-    cut(12, 8), blocks("K11 from its thirteenth record on", normal, shifted, 7, 7, k11);
-    make_block("1 4 7 t150 9"), blocks_over("K5", normal, rest, 9, 4, 1, S(150, 0, 1, 0, 5, 0, 0, 0));
-    make_block("2 1 4"), blocks("8 at the first", normal, rest, 8, 0, rest);
-    make_block("t7 14 1"), blocks("5 in the middle", normal, rest, 5, 1, ticked);
-    make_block("t7 t0 1"), blocks("6 in the middle", normal, rest, 6, 1, ticked);
-    make_block("t7 1 4"), made[9] = 1, blocks("6, a middle byte of the last", normal, rest, 6, 2, requested);
-    make_block("t7 1 1 14"), blocks("7 before a later 5", normal, rest, 7, 2, requested);
-    make_block("1 t3 t2"), blocks("the channel limit by two ticks", normal, rest, 0, 3, S(5, 0, 1, 0, 1, 0, 0, 0));
-    make_block("1 t3 t2 t1 4"), blocks_over("12 by three ticks", normal, rest, 12, 3, 1, S(5, 0, 1, 0, 1, 0, 0, 0));
-    make_block("1 t3 t200 4"), blocks_over("12, past the phase limit too", normal, rest, 12, 2, 198, S(3, 0, 1, 0, 1, 0, 0, 0));
-    make_block("1 4 7 t151 t4"), blocks("the phase limit by two ticks", normal, rest, 0, 5, S(155, 0, 1, 0, 5, 0, 0, 0));
-    make_block("1 4 7 t151 t4 t1"), blocks_over("11 by three ticks", normal, rest, 11, 5, 1, S(155, 0, 1, 0, 5, 0, 0, 0));
-    make_block("1 4 7 t151 t90 9"), blocks_over("11 by more", normal, rest, 11, 4, 86, S(151, 0, 1, 0, 5, 0, 0, 0));
-    make_block("t5 t65535"), blocks("the clock's end by two ticks", normal, late, 0, 2, latest);
-    make_block("t5 t65535 t1"), blocks_over("13 by three ticks", normal, late, 13, 2, 1, latest);
-    make_block("t5 t65535 t300 14"), blocks_over("13 by more", normal, late, 13, 2, 300, latest);
-    make_block("8 9"), blocks_over("10", normal, S(900, 0, 10, 300, 3, 899, 0, 0), 10, 0, 450, S(900, 0, 10, 300, 3, 899, 0, 0));
-    make_block("4 7 9 8"), blocks_over("9 by more than 32 bits", normal, S(0, 0, 1, 4294967295, 1, 0, 0, 0), 9, 2, 4294967446,
+    make_block(K1), blocks("K1", old_default, rest, 0, 12, shifted);
+    make_block(K11), blocks("K11", old_default, rest, 7, 19, k11);
+    cut(12, 8), blocks("K11 from its thirteenth record on", old_default, shifted, 7, 7, k11);
+    make_block("1 4 7 t150 9"), blocks_over("K5", old_default, rest, 9, 4, 1, S(150, 0, 1, 0, 5, 0, 0, 0));
+    make_block("2 1 4"), blocks("8 at the first", old_default, rest, 8, 0, rest);
+    make_block("t7 14 1"), blocks("5 in the middle", old_default, rest, 5, 1, ticked);
+    make_block("t7 t0 1"), blocks("6 in the middle", old_default, rest, 6, 1, ticked);
+    make_block("t7 1 4"), made[9] = 1, blocks("6, a middle byte of the last", old_default, rest, 6, 2, requested);
+    make_block("t7 1 1 14"), blocks("7 before a later 5", old_default, rest, 7, 2, requested);
+    make_block("1 t3 t2"), blocks("the channel limit by two ticks", old_default, rest, 0, 3, S(5, 0, 1, 0, 1, 0, 0, 0));
+    make_block("1 t3 t2 t1 4"), blocks_over("12 by three ticks", old_default, rest, 12, 3, 1, S(5, 0, 1, 0, 1, 0, 0, 0));
+    make_block("1 t3 t200 4");
+    blocks_over("12, past the phase limit too", old_default, rest, 12, 2, 198, S(3, 0, 1, 0, 1, 0, 0, 0));
+    make_block("1 4 7 t151 t4"), blocks("the phase limit by two ticks", old_default, rest, 0, 5, S(155, 0, 1, 0, 5, 0, 0, 0));
+    make_block("1 4 7 t151 t4 t1"), blocks_over("11 by three ticks", old_default, rest, 11, 5, 1, S(155, 0, 1, 0, 5, 0, 0, 0));
+    make_block("1 4 7 t151 t90 9"), blocks_over("11 by more", old_default, rest, 11, 4, 86, S(151, 0, 1, 0, 5, 0, 0, 0));
+    make_block("t5 t65535"), blocks("the clock's end by two ticks", old_default, late, 0, 2, latest);
+    make_block("t5 t65535 t1"), blocks_over("13 by three ticks", old_default, late, 13, 2, 1, latest);
+    make_block("t5 t65535 t300 14"), blocks_over("13 by more", old_default, late, 13, 2, 300, latest);
+    make_block("8 9");
+    blocks_over("10", old_default, S(900, 0, 10, 300, 3, 899, 0, 0), 10, 0, 450, S(900, 0, 10, 300, 3, 899, 0, 0));
+    make_block("4 7 9 8"), blocks_over("9 by more than 32 bits", old_default, S(0, 0, 1, 4294967295, 1, 0, 0, 0), 9, 2, 4294967446,
                                        S(0, 0, 1, 4294967295, 5, 0, 0, 0));
     make_block("1 t6"), blocks("12 under a looser table", with(0, 6), rest, 0, 2, S(6, 0, 1, 0, 1, 0, 0, 0));
     make_block("1 t5"), blocks_over("12 under a tighter table", with(0, 4), rest, 12, 1, 1, S(0, 0, 1, 0, 1, 0, 0, 0));
+    make_block(BUS_OF_10_MS), blocks("10 ms on the bus", new_default, rest, 0, 13, S(430, 1, 0, 430, 0, 430, 0, 0));
+    blocks_over("10 ms on the bus, the old default", old_default, rest, 12, 1, 5, S(0, 0, 1, 0, 1, 0, 0, 0));
 
     /* The number of each code with the amount 0, at rest in neutral; then a run that has all thirteen. */
     static const uint8_t number[] = {5, 0, 8, 8, 7, 7, 7, 7, 7, 7, 7, 7, 6, 7, 5, 5};
     for (uint8_t code = 0; code < sizeof number; code++) {
         make_block("t7 1"), made[4] = code;
-        blocks("every code", normal, rest, number[code], code == 1 ? 2 : 1, code == 1 ? requested : ticked);
+        blocks("every code", old_default, rest, number[code], code == 1 ? 2 : 1, code == 1 ? requested : ticked);
     }
     make_block("1 4 7 t151 9 4 5 8 4 5 8 4 6 10 13 2 4 5 8 4 5 8 4 5 8 4 5 8 11 3");
-    blocks("all thirteen steps", normal, rest, 0, 30, S(151, 1, 17, 151, 1, 151, 151, 0));
+    blocks("all thirteen steps", old_default, rest, 0, 30, S(151, 1, 17, 151, 1, 151, 151, 0));
 
     /* A table that is not admitted, and a state that is none. */
     make_block(K1), blocks("4", bad, rest, 4, 0, rest);
     make_block("1"), blocks("4, one record", with(3, 0), rest, 4, 0, rest);
     make_block("14 t0"), made[1] = 1, blocks("4 before 5, 6 and 7", bad, odd, 4, 0, odd);
-    make_block("14 1"), made[1] = 1, blocks("5 before 6 and 7", normal, odd, 5, 0, odd);
-    make_block("t0 14"), blocks("6 before 7", normal, odd, 6, 0, odd);
-    make_block("t1 14"), blocks("7 before a later 5, no state", normal, odd, 7, 0, odd);
-    blocks("7, phase 24", normal, S(1, 0, 24, 1, 0, 1, 0, 0), 7, 0, S(1, 0, 24, 1, 0, 1, 0, 0));
-    blocks("7, stage 6", normal, S(1, 0, 0, 1, 6, 1, 0, 0), 7, 0, S(1, 0, 0, 1, 6, 1, 0, 0));
-    blocks("7, box 2", normal, S(1, 2, 0, 1, 0, 1, 0, 0), 7, 0, S(1, 2, 0, 1, 0, 1, 0, 0));
+    make_block("14 1"), made[1] = 1, blocks("5 before 6 and 7", old_default, odd, 5, 0, odd);
+    make_block("t0 14"), blocks("6 before 7", old_default, odd, 6, 0, odd);
+    make_block("t1 14"), blocks("7 before a later 5, no state", old_default, odd, 7, 0, odd);
+    blocks("7, phase 24", old_default, S(1, 0, 24, 1, 0, 1, 0, 0), 7, 0, S(1, 0, 24, 1, 0, 1, 0, 0));
+    blocks("7, stage 6", old_default, S(1, 0, 0, 1, 6, 1, 0, 0), 7, 0, S(1, 0, 0, 1, 6, 1, 0, 0));
+    blocks("7, box 2", old_default, S(1, 2, 0, 1, 0, 1, 0, 0), 7, 0, S(1, 2, 0, 1, 0, 1, 0, 0));
 
     /* Bytes that are no whole record, by themselves and behind records. */
     for (size_t count = 0; count < 4; count++) {
         made_length = 0, leave_over(count);
-        blocks("no record", normal, shifted, 0, 0, shifted);
+        blocks("no record", old_default, shifted, 0, 0, shifted);
         blocks("no record, a bad table", bad, shifted, 0, 0, shifted);
-        blocks("no record, no state", normal, odd, 0, 0, odd);
+        blocks("no record, no state", old_default, odd, 0, 0, odd);
         blocks("no record, a bad table and no state", with(0, 0), odd, 0, 0, odd);
-        make_block(K1), leave_over(count), blocks("left over", normal, rest, 0, 12, shifted);
+        make_block(K1), leave_over(count), blocks("left over", old_default, rest, 0, 12, shifted);
         blocks("left over, a bad table", bad, rest, 4, 0, rest);
-        make_block("t7 4"), leave_over(count), blocks("left over behind a refused record", normal, rest, 7, 1, ticked);
-        make_block("t7 4"), made_length = 4 + count, blocks("left over of a wrong record", normal, rest, 0, 1, ticked);
+        make_block("t7 4"), leave_over(count), blocks("left over behind a refused record", old_default, rest, 7, 1, ticked);
+        make_block("t7 4"), made_length = 4 + count, blocks("left over of a wrong record", old_default, rest, 0, 1, ticked);
     }
 
     /* A block may be longer than any file. */
     ticks(MUNASIREL_MOST_RECORDS + 1, 65535), cut(0, steps);
-    blocks("16,373 ticks", normal, rest, 0, 16373, S(1073004555, 0, 0, 0, 0, 0, 0, 0));
-    blocks_over("13 after 16,000 ticks", normal, S(3246407295, 1, 22, 9, 0, 9, 8, 0), 13, 16000, 65535,
+    blocks("16,373 ticks", old_default, rest, 0, 16373, S(1073004555, 0, 0, 0, 0, 0, 0, 0));
+    blocks_over("13 after 16,000 ticks", old_default, S(3246407295, 1, 22, 9, 0, 9, 8, 0), 13, 16000, 65535,
                 S(4294967295, 1, 22, 9, 0, 9, 8, 0));
 
-    cuts_file(normal, K1);
+    cuts_file(old_default, K1);
     cuts_file(with(17, 1405), K1);
-    cuts_file(normal, K11);
-    cuts_file(normal, "1 t6");
+    cuts_file(old_default, K11);
+    cuts_file(old_default, "1 t6");
     cuts_file(with(0, 6), "1 t6");
-    cuts_file(normal, "1 t5 4 t101");
-    cuts_file(normal, "1 4 7 t150 9");
-    cuts_file(normal, "1 4 7 t151 9");
-    cuts_file(normal, "1 4 7 t156");
-    cuts_file(normal, "1 t5 4 t65535");
-    cuts_file(normal, IN_GEAR " 3 4 7 t9 9");
-    cuts_file(normal, "2");
-    cuts_file(normal, "1 1");
-    cuts_file(normal, "1 4 6");
-    cuts_file(normal, WOULD_NOT_CLOSE " t9 13 3");
-    cuts_file(normal, WOULD_NOT_CLOSE " 13 1");
-    cuts_file(normal, WOULD_NOT_CLOSE " 13 13");
-    cuts_file(normal, "1 4 5 8 4 5 8 11 2 4 7 t251 9 4 t150 5 8 4 5 8 4 5 8 4 5 8 11 3 4 5 8 4 5 8 11 14");
-    cuts_file(normal, "t1 t2 t3 t4 t5 t6 t0");
+    cuts_file(old_default, BUS_OF_10_MS);
+    cuts_file(new_default, BUS_OF_10_MS);
+    cuts_file(new_default, "1 t10 t1");
+    cuts_file(house, BUS_OF_10_MS);
+    cuts_file(old_default, "1 t5 4 t101");
+    cuts_file(old_default, "1 4 7 t150 9");
+    cuts_file(old_default, "1 4 7 t151 9");
+    cuts_file(old_default, "1 4 7 t156");
+    cuts_file(old_default, "1 t5 4 t65535");
+    cuts_file(old_default, IN_GEAR " 3 4 7 t9 9");
+    cuts_file(old_default, "2");
+    cuts_file(old_default, "1 1");
+    cuts_file(old_default, "1 4 6");
+    cuts_file(old_default, WOULD_NOT_CLOSE " t9 13 3");
+    cuts_file(old_default, WOULD_NOT_CLOSE " 13 1");
+    cuts_file(old_default, WOULD_NOT_CLOSE " 13 13");
+    cuts_file(old_default, "1 4 5 8 4 5 8 11 2 4 7 t251 9 4 t150 5 8 4 5 8 4 5 8 4 5 8 11 3 4 5 8 4 5 8 11 14");
+    cuts_file(old_default, "t1 t2 t3 t4 t5 t6 t0");
     cuts_file(house, DELAYED " 3");
     cuts_file(house, TO_OPEN " t19 5");
     cuts_file(house, TO_OPEN " t20 6");
@@ -1050,10 +1173,12 @@ int main(void)
     judging();
     giving();
     admitting();
+    naming();
     tabling();
     lining();
     joining();
     writing();
+    writing_none();
     advancing_runs();
     advancing_steps();
     advancing_clutches();

@@ -78,15 +78,20 @@ static inline int kept(const void *address, size_t from)
 }
 
 /* ---- step files, made by hand */
-static const munasirel_limits normal = {5,   100, 200, 150, 150, 300, 200, 150,  250, 155, 255,
-                                        151, 251, 200, 350, 250, 200, 1500, 0,   0,   0,   0};
-/* The house's table, and one in which no two delays are equal. */
-static const munasirel_limits house = {5,   100, 200, 150, 150, 300, 200, 150,  250, 155, 255,
+/* The old default, under which files without a table are judged, and the new one, which is handed out. */
+static const munasirel_limits old_default = {5,   100, 200, 150, 150, 300, 200, 150,  250, 155, 255,
+                                             151, 251, 200, 350, 250, 200, 1500, 0,   0,   0,   0};
+static const munasirel_limits new_default = {10,  100, 200, 150, 150, 300, 200, 150,  250, 155, 255,
+                                             151, 251, 200, 350, 250, 200, 1500, 0,   0,   0,   0};
+/* The house's table, which is the new default with delays, and one in which no two delays are equal. */
+static const munasirel_limits house = {10,  100, 200, 150, 150, 300, 200, 150,  250, 155, 255,
                                        151, 251, 200, 350, 250, 200, 1500, 20,  60,  20,  60};
 static const munasirel_limits apart = {5,   100, 200, 150, 150, 300, 200, 150,  250, 155, 255,
                                        151, 251, 200, 350, 250, 200, 1500, 21,  62,  33,  84};
 static const char *const K1 = "1 t5 4 t100 5 t5 8 4 t300 5 8 11";
 static const char *const K11 = "1 t5 4 t100 5 t5 8 4 t300 5 8 11 3 4 5 8 4 6 10 11";
+/* A shift on the bus that needs 10 ms: accepted under the new default, and refused under the old one at its first tick. */
+static const char *const BUS_OF_10_MS = "1 t10 4 t100 5 t10 8 4 t300 5 t10 8 11";
 /* From neutral, at once. */
 #define IN_GEAR "1 4 5 8 4 5 8 11"
 /* The set order is taken in phase 4, and the clutch will not close in phase 5. */
@@ -159,11 +164,12 @@ static inline void make_entries(unsigned k, const munasirel_limits *table)
     put_records(0, steps);
 }
 
-/* The same with a table as it is written, in eighteen entries or in twenty-two, or, where there is none, without. */
+/* The same with a table as it is written, in eighteen entries or in twenty-two, or, where there is none, without: such a file is
+ * judged under the old default. */
 static inline void make_list(const munasirel_limits *table)
 {
     if (!table)
-        make_entries(0, &normal);
+        make_entries(0, &old_default);
     else if (table->clutch_open_de || table->error_clutch_open_de || table->clutch_close_de || table->error_clutch_close_de)
         make_entries(22, table);
     else
@@ -189,7 +195,7 @@ static inline void make_with_22(munasirel_limits table, const char *text)
     make_entries(22, &table);
 }
 
-/* A table with one entry changed: of any, of the default, and of the house's. */
+/* A table with one entry changed: of any, of the old default, and of the house's. */
 static inline munasirel_limits changed(munasirel_limits table, unsigned entry, unsigned limit)
 {
     uint16_t entries[22];
@@ -201,7 +207,7 @@ static inline munasirel_limits changed(munasirel_limits table, unsigned entry, u
 
 static inline munasirel_limits with(unsigned entry, unsigned limit)
 {
-    return changed(normal, entry, limit);
+    return changed(old_default, entry, limit);
 }
 
 static inline munasirel_limits house_with(unsigned entry, unsigned limit)

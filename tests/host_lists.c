@@ -89,7 +89,8 @@ static void lists_not(const char *name, unsigned number, unsigned rule, size_t i
 static void listing(void)
 {
     make(K1), lists("K1", SHIFTS({0, 10, 1, 0, 1, 0, 410}));
-    make_with(normal, K1), lists("K1 with its table", SHIFTS({0, 10, 1, 0, 1, 0, 410}));
+    make_with(old_default, K1), lists("K1 with its table", SHIFTS({0, 10, 1, 0, 1, 0, 410}));
+    make_with(new_default, BUS_OF_10_MS), lists("10 ms on the bus, the new default", SHIFTS({0, 11, 1, 0, 1, 0, 430}));
     make(""), lists("K2", NO_SHIFTS);
     make("t9 t65535"), lists("ticks at rest", NO_SHIFTS);
 
@@ -122,13 +123,13 @@ static void listing(void)
 
     /* With delays of the clutch. */
     make_with(house, DELAYED), lists("the house's delays", SHIFTS({0, 18, 1, 1, 1, 0, 201}));
-    make_with_22(normal, WOULD_NOT_CLOSE), lists("22 entries without delays", SHIFTS({0, 13, 1, 1, 2, 0, 151}));
+    make_with_22(old_default, WOULD_NOT_CLOSE), lists("22 entries without delays", SHIFTS({0, 13, 1, 1, 2, 0, 151}));
     ticks(MUNASIREL_MOST_RECORDS_22, 65535), make_list(&house), lists("the longest file of 22 entries", NO_SHIFTS);
 
     /* The widths of the numbers. */
     ticks(MUNASIREL_MOST_RECORDS, 65535), codes[16000] = 1, amounts[16000] = 0;
     steps = 16001, make_list(NULL), lists("late in the longest file", SHIFTS({16000, 16000, 1, 0, 0, 1048560000, 0}));
-    ticks(MUNASIREL_MOST_RECORDS, 65535), make_list(&normal), lists("the longest file of ticks", NO_SHIFTS);
+    ticks(MUNASIREL_MOST_RECORDS, 65535), make_list(&old_default), lists("the longest file of ticks", NO_SHIFTS);
 
     /* The file's own numbers come before the list's. */
     made_length = 0, lists_not("1, nothing", 1, 0, 0, 0);
@@ -149,6 +150,7 @@ static void listing(void)
     make_with(house, TO_CLOSE " t20 6"), lists_not("9, failed to close too early", 9, 0, 17, 40);
     make("1 4 7 t200"), lists_not("11 in a shift", 11, 0, 3, 45);
     make("1 t5 t65535"), lists_not("12 in a shift", 12, 0, 2, 65535);
+    make(BUS_OF_10_MS), lists_not("12, 10 ms on the bus, no table", 12, 0, 1, 5);
 }
 
 /* The most shifts of a file, of eight records each and one of four. */
@@ -163,7 +165,7 @@ static void listing_most(void)
         shifts[i] = (munasirel_shift){(uint16_t)(8 * i), (uint16_t)(8 * i + 6), i % 2 == 0 ? 1 : 3, 0, 1, 0, 0};
     shifts[count - 1].last = MUNASIREL_MOST_RECORDS - 1;
     shifts[count - 1].end = 0;
-    make_list(&normal), lists("the most shifts", shifts, count);
+    make_list(&old_default), lists("the most shifts", shifts, count);
     check("list", "the most shifts", "count", count == 2047 && wanted.length == 32760);
 }
 
@@ -266,7 +268,7 @@ static void extends(const char *name, struct extension e, struct answered want)
 /* From the list given, with the state and the count at its file's end: with just the room, with more and with a byte less. */
 static void extends_to(const char *name, munasirel_state state, uint32_t count)
 {
-    struct extension e = {wanted.length, given.length, state, count, normal};
+    struct extension e = {wanted.length, given.length, state, count, old_default};
     extends(name, e, good);
     e.room += 20, extends(name, e, good);
     e.room = wanted.length - 1, extends(name, e, full);
@@ -275,7 +277,7 @@ static void extends_to(const char *name, munasirel_state state, uint32_t count)
 /* Refused, in this and in other rooms that hold the list. */
 static void extends_not(const char *name, munasirel_state state, uint32_t count, struct answered want)
 {
-    struct extension e = {given.length, given.length, state, count, normal};
+    struct extension e = {given.length, given.length, state, count, old_default};
     extends(name, e, want);
     e.room += 100, extends(name, e, want);
 }
@@ -305,7 +307,7 @@ static void extending_in_order(void)
     given.at[0] = 2, extends("2 for the records, then", e, (struct answered){2, 0, 0, 0});
     e.count = 1, extends("2 for the shifts, then", e, (struct answered){2, 0, 0, 0});
     e.count = 16, extends("4, then", e, (struct answered){4, 14, 0, 0});
-    e.table = normal, extends("14, then", e, (struct answered){14, 0, 0, 0});
+    e.table = old_default, extends("14, then", e, (struct answered){14, 0, 0, 0});
     e.state = IN_SHIFT, extends("5, then", e, (struct answered){5, 0, 17, 0});
     make_block("4 t100 5 8 4 5 8 11 3 t2"), extends("15 for the longer list, last", e, full);
     e.room = 55, extends("15, a byte too few", e, full);
@@ -317,7 +319,7 @@ static void extending_in_order(void)
 static void extending_odd_lists(void)
 {
     const munasirel_state rest = S(500, 1, 0, 410, 0, 410, 0, 0);
-    struct extension e = {1000, 24, rest, 12, normal};
+    struct extension e = {1000, 24, rest, 12, old_default};
     lay(&given, SHIFTS({0, 10, 1, 0, 1, 0, 410}));
     make_block("t1");
     wanted = given, extends("as it should be", e, good);
@@ -367,7 +369,7 @@ static void extending_to_the_most(void)
     for (size_t i = 0; i < MUNASIREL_MOST_RECORDS; i++)
         shifts[i] = (munasirel_shift){(uint16_t)i, (uint16_t)i, 1, 0, 1, 0, 0};
     made_length = 0, lay(&given, shifts, MUNASIREL_MOST_RECORDS), wanted = given;
-    extends("the longest list", (struct extension){MUNASIREL_LONGEST_LIST, MUNASIREL_LONGEST_LIST, rest, 16372, normal}, good);
+    extends("the longest list", (struct extension){MUNASIREL_LONGEST_LIST, MUNASIREL_LONGEST_LIST, rest, 16372, old_default}, good);
     struct extension delayed = {MUNASIREL_LONGEST_LIST, MUNASIREL_LONGEST_LIST, rest, 16372, house};
     extends("the longest list, with delays", delayed, many);
 }
@@ -384,7 +386,7 @@ static void extending_to_the_most_of_22(void)
         made_length = 0, extends("16,371 or 16,372 records and none", e, many);
     make_block("t1"), e.count = 16369, extends("16,369 records and one", e, good);
     e.count = 16370, extends("16,370 records and one", e, many);
-    e.table = normal, extends("16,370 records and one, no delays", e, good);
+    e.table = old_default, extends("16,370 records and one, no delays", e, good);
     for (unsigned i = 18; i < 22; i++) {
         e.table = with(i, 1), e.count = 16369, extends("4, one delay alone", e, (struct answered){4, 16, 0, 0});
         e.count = 16370, extends("2 before 4, one delay alone", e, many);
@@ -409,17 +411,20 @@ static void extending_under_tables(void)
     e.table = with(3, 0), extends("4, rule 1", e, (struct answered){4, 1, 0, 0});
     e.table = with(9, 65535), extends("4, rule 12", e, (struct answered){4, 12, 0, 0});
     e.table = house_with(18, 60), extends("4, rule 16", e, (struct answered){4, 16, 0, 0});
-    make_block("1 t6"), e.table = normal, extends("12 under the default", e, (struct answered){12, 0, 1, 1});
+    make_block("1 t6"), e.table = old_default, extends("12 under the old default", e, (struct answered){12, 0, 1, 1});
     e.table = with(0, 4), extends("12 under a tighter table", e, (struct answered){12, 0, 1, 2});
     e.table = with(0, 6), lay(&wanted, SHIFTS({0, 1, 1, 0, 0, 0, 6})), extends("accepted under a looser one", e, good);
+    e.table = new_default, extends("accepted under the new default", e, good);
+    make_block(BUS_OF_10_MS), lay(&wanted, SHIFTS({0, 11, 1, 0, 1, 0, 430})), extends("10 ms on the bus", e, good);
+    e.table = old_default, extends("12, 10 ms on the bus", e, (struct answered){12, 0, 1, 5});
     make_block(TO_OPEN " t20 6"), e.table = house, extends("9 with delays", e, (struct answered){9, 0, 9, 40});
-    e.table = normal, lay(&wanted, SHIFTS({0, 9, 1, 1, 0, 0, 176})), extends("accepted without", e, good);
+    e.table = old_default, lay(&wanted, SHIFTS({0, 9, 1, 1, 0, 0, 176})), extends("accepted without", e, good);
 }
 
 /* Whether state and list fit, without a record. */
 static void fits(const char *name, munasirel_state state, uint32_t count, int want)
 {
-    struct extension e = {given.length, given.length, state, count, normal};
+    struct extension e = {given.length, given.length, state, count, old_default};
     made_length = 0;
     wanted = given;
     extends(name, e, want ? good : (struct answered){14, 0, 0, 0});
@@ -609,17 +614,18 @@ static void cuts(const char *name, munasirel_limits table, const char *text)
 
 static void extending_at_every_cut(void)
 {
-    cuts("no record", normal, "");
-    cuts("ticks", normal, "t1 t2 t3");
-    cuts("K1", normal, K1);
+    cuts("no record", old_default, "");
+    cuts("ticks", old_default, "t1 t2 t3");
+    cuts("K1", old_default, K1);
     cuts("K1 under another table", with(17, 1405), K1);
-    cuts("K6", normal, "1 4 7 t151 9");
-    cuts("K11 without its last", normal, "1 t5 4 t100 5 t5 8 4 t300 5 8 11 3 4 5 8 4 6 10");
+    cuts("K6", old_default, "1 4 7 t151 9");
+    cuts("K11 without its last", old_default, "1 t5 4 t100 5 t5 8 4 t300 5 8 11 3 4 5 8 4 6 10");
     cuts("a looser table", with(0, 6), "1 t6 4 5 t6 8 t6");
+    cuts("10 ms on the bus", new_default, BUS_OF_10_MS);
     cuts("the house's delays", house, DELAYED " 2 4 7 t251 9 4 t60 6 10 t1 13 3");
     cuts("delays that differ", apart, TO_OPEN " t21 5 8 4 5 8 4 t84 6 10");
-    cuts("a reset", normal, WOULD_NOT_CLOSE " t9 13 t2 3 t5 4 5 8 4 6 10 13 2 t4 t1");
-    cuts("gear to gear", normal,
+    cuts("a reset", old_default, WOULD_NOT_CLOSE " t9 13 t2 3 t5 4 5 8 4 6 10 13 2 t4 t1");
+    cuts("gear to gear", old_default,
          "t8 " IN_GEAR " t1 2 4 7 t251 9 4 t150 5 8 4 5 8 4 5 8 4 5 8 t2 11 2 4 5 8 4 5 8 4 7 t151 9 4 5 8 4 5 8 4 5 8 t3 t4 11 t5 "
          "3 4 5 8 4 5 8 11 t6 1");
 }

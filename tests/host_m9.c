@@ -69,26 +69,31 @@ static void manual(void)
     w = (munasirel_m9_variables){0};
     check("m9", "start", "variables", same_variables(&v, &w));
 
-    v = both("a request", normal, "t7 1");
+    v = both("a request", old_default, "t7 1");
     check("m9", "a request", "flags", flags_up(&v) == 2 && v.isNeu && v.RequestFromNeu);
     check("m9", "a request", "times", v.time == 7 && v.RequestFromNeuT == 7);
-    v = both("delivered", normal, "1 t5 4");
+    v = both("delivered", old_default, "1 t5 4");
     check("m9", "delivered", "flags", flags_up(&v) == 3 && v.Engine_Request_SyncSpeed && v.Engine_Request_SyncSpeedT == 5);
-    v = both("taken", normal, "1 t5 4 t100 5 t5 8");
+    v = both("taken", old_default, "1 t5 4 t100 5 t5 8");
     check("m9", "taken", "flags", flags_up(&v) == 5 && v.FromNeu_SyncSpeed && v.Engine_SyncSpeed);
     check("m9", "taken", "times", v.FromNeu_SyncSpeedT == 110 && v.Engine_SyncSpeedT == 105);
-    v = both("K1", normal, K1);
+    v = both("K1", old_default, K1);
     check("m9", "K1", "flags", flags_up(&v) == 0 && v.time == 410);
-    v = both("K11", normal, K11);
+    v = both("K11", old_default, K11);
     check("m9", "K11", "flags", v.Error_ToNeu_Release_NoClutch && v.Error_Gear_Release && !v.isNeu);
-    both("gear to gear by the clutch", normal, "1 4 5 8 4 5 8 11 2 4 7 t251 9 4 t150 5 8 4 5 8 4 5 8 4 5 8 11 3");
-    both("gear to gear, the clutch asked for late", normal, "1 4 5 8 4 5 8 11 2 4 5 8 4 5 8 4 7 t151 9 4 5 8 4 5 8 4 5 8 11");
-    both("to neutral by the clutch", normal, "1 4 5 8 4 5 8 11 3 4 7 t251 9 4 5 8 4 5 8 4 6 10 t9 11");
-    v = both("a reset", normal, WOULD_NOT_CLOSE " t9 13");
+    both("gear to gear by the clutch", old_default, "1 4 5 8 4 5 8 11 2 4 7 t251 9 4 t150 5 8 4 5 8 4 5 8 4 5 8 11 3");
+    both("gear to gear, the clutch asked for late", old_default, "1 4 5 8 4 5 8 11 2 4 5 8 4 5 8 4 7 t151 9 4 5 8 4 5 8 4 5 8 11");
+    both("to neutral by the clutch", old_default, "1 4 5 8 4 5 8 11 3 4 7 t251 9 4 5 8 4 5 8 4 6 10 t9 11");
+    v = both("a reset", old_default, WOULD_NOT_CLOSE " t9 13");
     check("m9", "a reset", "flags", flags_up(&v) == 0 && v.time == 160);
-    both("resets", normal, "13 " WOULD_NOT_CLOSE " 13 13 3 4 5 8 13 4 6 10 1 13 2 4 5 8 4 5 8 4 5 8 4 6 10 t3 13 1 13 4 7 t151");
-    both("what is refused", normal, "14 13 0 t0 2 1 1 8 9 10 11 t156 t6 4 t101 6 9 7 9 t151 9 t6 4 t151 6 10 10 11 t65535");
+    both("resets", old_default,
+         "13 " WOULD_NOT_CLOSE " 13 13 3 4 5 8 13 4 6 10 1 13 2 4 5 8 4 5 8 4 5 8 4 6 10 t3 13 1 13 4 7 t151");
+    both("what is refused", old_default, "14 13 0 t0 2 1 1 8 9 10 11 t156 t6 4 t101 6 9 7 9 t151 9 t6 4 t151 6 10 10 11 t65535");
     both("a table that is not admitted", with(0, 0), "1 t5 13 14");
+    v = both("10 ms on the bus, the new default", new_default, BUS_OF_10_MS);
+    check("m9", "10 ms on the bus, the new default", "flags", flags_up(&v) == 0 && v.time == 430);
+    v = both("10 ms on the bus, the old default", old_default, "1 t10");
+    check("m9", "10 ms on the bus, the old default", "flags", v.RequestFromNeu && v.time == 0);
 
     /* With delays of the clutch; what is too early is refused, and the next record is tried on the same variables. */
     v = both("the house's delays", house, DELAYED);
@@ -114,20 +119,20 @@ static void manual(void)
     MUNASIREL_M9_TIMES(NUMBERED)
     MUNASIREL_M9_FLAGS(IN_TURNS)
     check("m9", "names", "count", k == 98);
-    munasirel_m9_moved moved = munasirel_m9_advance(v, normal, 14, 0, 0, 0);
+    munasirel_m9_moved moved = munasirel_m9_advance(v, old_default, 14, 0, 0, 0);
     check("m9", "every variable", "number", moved.number == 5 && moved.rule == 0);
     check("m9", "every variable", "variables", same_variables(&moved.variables, &v));
-    moved = munasirel_m9_advance(v, normal, 1, 1, 0, 0);
+    moved = munasirel_m9_advance(v, old_default, 1, 1, 0, 0);
     check("m9", "a middle byte", "number", moved.number == 6 && same_variables(&moved.variables, &v));
     v = munasirel_m9_start();
-    moved = munasirel_m9_advance(v, normal, 12, 0, 3, 1);
+    moved = munasirel_m9_advance(v, old_default, 12, 0, 3, 1);
     v.time = 259;
     check("m9", "a tick's two bytes", "variables", moved.number == 0 && same_variables(&moved.variables, &v));
 
     /* FINAL lowers no error flag. */
     v = munasirel_m9_start();
     v.FromNeu_CloseClutch = v.Error_FromNeu_CloseClutch = v.Error_Gear_Set = true;
-    moved = munasirel_m9_advance(v, normal, 11, 0, 0, 0);
+    moved = munasirel_m9_advance(v, old_default, 11, 0, 0, 0);
     v.FromNeu_CloseClutch = false;
     check("m9", "FINAL with errors up", "variables", moved.number == 0 && same_variables(&moved.variables, &v));
 
@@ -137,16 +142,16 @@ static void manual(void)
         MUNASIREL_M9_FLAGS(RAISED)
         MUNASIREL_M9_TIMES(NUMBERED)
         v.isNeu = neutral;
-        moved = munasirel_m9_advance(v, normal, 13, 0, 0, 0);
+        moved = munasirel_m9_advance(v, old_default, 13, 0, 0, 0);
         check("m9", "a reset with every flag up", "flags", moved.number == 0 && flags_up(&moved.variables) == (unsigned)neutral);
 #define LOWERED(name) v.name = false;
         MUNASIREL_M9_FLAGS(LOWERED)
         v.isNeu = neutral;
         check("m9", "a reset with every flag up", "variables", same_variables(&moved.variables, &v));
-        moved = munasirel_m9_advance(v, normal, 13, 0, 0, 0);
+        moved = munasirel_m9_advance(v, old_default, 13, 0, 0, 0);
         check("m9", "a reset with no flag up", "number", moved.number == 7 && same_variables(&moved.variables, &v));
         v.Error_Clutch_Open = v.Error_Clutch_Close = v.Error_Gear_Release = v.Error_Gear_Set = true;
-        moved = munasirel_m9_advance(v, normal, 13, 0, 0, 0);
+        moved = munasirel_m9_advance(v, old_default, 13, 0, 0, 0);
         check("m9", "a reset with the devices' errors alone", "number", moved.number == 7 && same_variables(&moved.variables, &v));
     }
 }

@@ -3,15 +3,19 @@
 use mathlib.Core.Path.{sym, _∙_}
 use Rattle.checks.specs.Determined.{Determined}
 use Rattle.limits.proofs.Table.broken_rule.Reads as broken-rule-reads
-use Rattle.limits.proofs.Table.default.Reads as default-reads
 use Rattle.limits.proofs.Table.entries.Reads as entries-reads
 use Rattle.limits.proofs.Table.house.Reads as house-reads
 use Rattle.limits.proofs.Table.is_undelayed.Reads as is-undelayed-reads
+use Rattle.limits.proofs.Table.new_default.Reads as new-default-reads
 use Rattle.limits.proofs.Table.of.Reads as of-reads
+use Rattle.limits.proofs.Table.old_default.Reads as old-default-reads
 use Rattle.limits.proofs.entry_at.Reads as entry-at-reads
 
-pub default : Determined default-reads.Post
-default κs a x y at at′ p q = p ∙ sym q
+pub old-default : Determined old-default-reads.Post
+old-default κs a x y at at′ p q = p ∙ sym q
+
+pub new-default : Determined new-default-reads.Post
+new-default κs a x y at at′ p q = p ∙ sym q
 
 pub house : Determined house-reads.Post
 house κs a x y at at′ p q = p ∙ sym q

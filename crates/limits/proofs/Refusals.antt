@@ -1,4 +1,4 @@
--- The default and the house's table are those of specs/Refusals.antt, and admitted; a table is admitted where the sixteen rules hold in
+-- Both defaults and the house's table are those of specs/Refusals.antt, and admitted; a table is admitted where the sixteen rules hold in
 -- its words, and the broken rule is the first of them that does not.
 -- Assumes nothing.
 use mathlib.Core.Path.{_≡_, refl}
@@ -15,9 +15,10 @@ use Rattle.checks.proofs.Tests.{eq→eqb, left, right, both, either, one-of}
 use Rattle.limits.specs.declared.Table.{Table}
 use Rattle.limits.specs.Limits.{limits, undelayed}
 use Rattle.limits.specs.Rules.{atLeast1, waits, rules, brokenRule}
-use Rattle.limits.specs.Refusals.{byDefault, byHouse, NoDelays, BothDelayed, All, rulesStated, Admitted, brokenFrom, broken}
+use Rattle.limits.specs.Refusals.{byOldDefault, byNewDefault, byHouse, NoDelays, BothDelayed, All, rulesStated, Admitted, brokenFrom, broken}
 use Rattle.limits.proofs.Table.broken_rule.Reads as broken-rule-reads
-use Rattle.limits.proofs.Table.default.Reads as default-reads
+use Rattle.limits.proofs.Table.old_default.Reads as old-default-reads
+use Rattle.limits.proofs.Table.new_default.Reads as new-default-reads
 use Rattle.limits.proofs.Table.house.Reads as house-reads
 
 -- a test of a statement, and tests of a list of them
@@ -144,15 +145,18 @@ module _ (t : Table) where
   not-admitted n a = n (admitted-in-the-document's-words .1 a)
 
 -- ---- of the contracts
-pub default : (κs : _) (a : _) (r : _) (at : _) → default-reads.Post κs a r at → r ≡ byDefault
-default κs a r at p = p
+pub old-default : (κs : _) (a : _) (r : _) (at : _) → old-default-reads.Post κs a r at → r ≡ byOldDefault
+old-default κs a r at p = p
+
+pub new-default : (κs : _) (a : _) (r : _) (at : _) → new-default-reads.Post κs a r at → r ≡ byNewDefault
+new-default κs a r at p = p
 
 pub house : (κs : _) (a : _) (r : _) (at : _) → house-reads.Post κs a r at → r ≡ byHouse
 house κs a r at p = p
 
--- what both answer is admitted
-pub both-are-admitted : Admitted byDefault × Admitted byHouse
-both-are-admitted = (admitted byDefault refl, admitted byHouse refl)
+-- what the three answer is admitted
+pub all-three-are-admitted : Admitted byOldDefault × Admitted byNewDefault × Admitted byHouse
+all-three-are-admitted = (admitted byOldDefault refl, admitted byNewDefault refl, admitted byHouse refl)
 
 pub broken-rule :
     (κs : _) (a : _) (r : _) (at : _) → broken-rule-reads.Post κs a r at → FirstOf (broken (a .0)) r × (r ≤ 16)

@@ -1,11 +1,11 @@
--- Document 01, "The limit table", with the four delays of document 02's request 6: the entries by number, the default table and the
--- house's, and the sums of the routes.
+-- Document 01, "The limit table", with the four delays of document 02's request 6 and the two defaults of its request 7: the entries by
+-- number, the old default, the new default and the house's table, and the sums of the routes.
 -- Assumes nothing.
 use mathlib.Core.Bool.{Bool, _&&_}
 use mathlib.Core.List.{List, [], _∷_, _++_}
 use Prim.Native.Nat.{ℕ, _+_}
 use lib.Dec.{eqb}
-use lib.ListN.{getD}
+use lib.ListN.{getD, set}
 use Rattle.limits.specs.declared.Table.{Table}
 
 -- entries 0 to 17
@@ -77,14 +77,18 @@ tableOf es = record {
   «error_clutch_close_de» = getD es 21 0;
 }
 
--- entries 0 to 17 by default; its four delays are 0
-abbrev pub default : Table
-default =
+-- the old default, under which a file without a table is judged for ever: entries 0 to 17; its four delays are 0
+abbrev pub oldDefault : Table
+oldDefault =
     tableOf (5 ∷ 100 ∷ 200 ∷ 150 ∷ 150 ∷ 300 ∷ 200 ∷ 150 ∷ 250 ∷ 155 ∷ 255 ∷ 151 ∷ 251 ∷ 200 ∷ 350 ∷ 250 ∷ 200 ∷ 1500 ∷ [])
 
--- the house values: the default with delays
+-- the new default, which is handed out now: the old one with another Channel_DL, entry 0
+abbrev pub newDefault : Table
+newDefault = tableOf (set (limits oldDefault) 0 10)
+
+-- the house values: the new default with delays
 abbrev pub house : Table
-house = tableOf (limits default ++ (20 ∷ 60 ∷ 20 ∷ 60 ∷ []))
+house = tableOf (limits newDefault ++ (20 ∷ 60 ∷ 20 ∷ 60 ∷ []))
 
 -- the four route sums
 abbrev pub sumF : Table → ℕ

@@ -1,5 +1,5 @@
--- Document 01, "The limit table", and document 02's request 6, a second time: the default and the house's table by name, the sixteen
--- rules as statements, when a table is admitted, and which rule it breaks. It shares no definition with Limits.antt and Rules.antt.
+-- Document 01, "The limit table", and document 02's requests 6 and 7, a second time: the two defaults and the house's table by name, the
+-- sixteen rules as statements, when a table is admitted, and which rule it breaks. It shares no definition with Limits.antt and Rules.antt.
 -- Assumes nothing.
 use mathlib.Core.Path.{_≡_}
 use mathlib.Core.Logic.{_⊎_}
@@ -8,9 +8,10 @@ use Prim.Native.Nat.{ℕ, suc, _+_, _*_, _≤_, _<_}
 use Rattle.checks.specs.Conditions.{Condition, _else_}
 use Rattle.limits.specs.declared.Table.{Table}
 
-abbrev pub byDefault : Table
-byDefault = record {
-  «channel_dl» = 5;
+-- the seventeen limits that all three have, with this time of the channel and these delays
+abbrev pub limitsWith : ℕ → ℕ → ℕ → ℕ → ℕ → Table
+limitsWith channel plainOpen errorOpen plainClose errorClose = record {
+  «channel_dl» = channel;
   «engine_sync_dl» = 100;
   «engine_zero_dl» = 200;
   «clutch_open_dl» = 150;
@@ -28,37 +29,21 @@ byDefault = record {
   «release_dl» = 250;
   «close_clutch_dl» = 200;
   «change_dl» = 1500;
-  «clutch_open_de» = 0;
-  «error_clutch_open_de» = 0;
-  «clutch_close_de» = 0;
-  «error_clutch_close_de» = 0;
+  «clutch_open_de» = plainOpen;
+  «error_clutch_open_de» = errorOpen;
+  «clutch_close_de» = plainClose;
+  «error_clutch_close_de» = errorClose;
 }
 
+-- for files without a table; for what is handed out now; and that for clutches that cannot answer at once
+abbrev pub byOldDefault : Table
+byOldDefault = limitsWith 5 0 0 0 0
+
+abbrev pub byNewDefault : Table
+byNewDefault = limitsWith 10 0 0 0 0
+
 abbrev pub byHouse : Table
-byHouse = record {
-  «channel_dl» = 5;
-  «engine_sync_dl» = 100;
-  «engine_zero_dl» = 200;
-  «clutch_open_dl» = 150;
-  «clutch_close_dl» = 150;
-  «gear_set_dl» = 300;
-  «gear_release_dl» = 200;
-  «sync_ex» = 150;
-  «zero_ex» = 250;
-  «sync_dl» = 155;
-  «zero_dl» = 255;
-  «sync_de» = 151;
-  «zero_de» = 251;
-  «open_clutch_dl» = 200;
-  «set_gear_dl» = 350;
-  «release_dl» = 250;
-  «close_clutch_dl» = 200;
-  «change_dl» = 1500;
-  «clutch_open_de» = 20;
-  «error_clutch_open_de» = 60;
-  «clutch_close_de» = 20;
-  «error_clutch_close_de» = 60;
-}
+byHouse = limitsWith 10 20 60 20 60
 
 -- all of a list of statements
 abbrev pub All : List (Type 0) → Type 0

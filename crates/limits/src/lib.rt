@@ -1,10 +1,10 @@
-// The limit table of document 01 with document 02's delays of the clutch: twenty-two entries, the default table, the house's, and the
-// first rule that a table breaks.
+// The limit table of document 01 with document 02's delays of the clutch: twenty-two entries, the old default, the new default, the
+// house's table, and the first rule that a table breaks.
 ghost use mathlib.Core.Path.{_≡_};
 ghost use mathlib.Core.Bool.{false};
 ghost use Prim.Native.Nat.{_+_, _*_, _≤_};
 ghost use Rattle.checks.specs.Checks.{first, numbered};
-ghost use Rattle.limits.specs.Limits.{default, house, limits, entries, undelayed, entry, tableOf};
+ghost use Rattle.limits.specs.Limits.{oldDefault, newDefault, house, limits, entries, undelayed, entry, tableOf};
 ghost use Rattle.limits.specs.Rules.{atLeast1, engineRules, deviceRules, askRules, routeRules, waits, delayRules, brokenRule};
 
 // The limits under the manual's names, in milliseconds, in the order of their entry numbers 0 to 21.
@@ -35,9 +35,9 @@ pub struct Table {
 }
 
 impl Table {
-    // The default table.
-    pub fn default() -> Table
-        ensures { λ r. ⌜ r ≡ default ⌝ }
+    // The old default, under which a file without a table is judged for ever.
+    pub fn old_default() -> Table
+        ensures { λ r. ⌜ r ≡ oldDefault ⌝ }
     {
         Table {
             channel_dl: 5,
@@ -65,35 +65,25 @@ impl Table {
         }
     }
 
-    // The house's table for the clutch unit that reports before its plates part: the default with delays.
+    // The new default, which is handed out now: the bus of this year's vehicles needs 10 ms.
+    pub fn new_default() -> Table
+        ensures { λ r. ⌜ r ≡ newDefault ⌝ }
+    {
+        let mut table = Table::old_default();
+        table.channel_dl = 10;
+        table
+    }
+
+    // The house's table for the clutch unit that reports before its plates part: the new default with delays.
     pub fn house() -> Table
         ensures { λ r. ⌜ r ≡ house ⌝ }
     {
-        let limits = Table::default();
-        Table {
-            channel_dl: limits.channel_dl,
-            engine_sync_dl: limits.engine_sync_dl,
-            engine_zero_dl: limits.engine_zero_dl,
-            clutch_open_dl: limits.clutch_open_dl,
-            clutch_close_dl: limits.clutch_close_dl,
-            gear_set_dl: limits.gear_set_dl,
-            gear_release_dl: limits.gear_release_dl,
-            sync_ex: limits.sync_ex,
-            zero_ex: limits.zero_ex,
-            sync_dl: limits.sync_dl,
-            zero_dl: limits.zero_dl,
-            sync_de: limits.sync_de,
-            zero_de: limits.zero_de,
-            open_clutch_dl: limits.open_clutch_dl,
-            set_gear_dl: limits.set_gear_dl,
-            release_dl: limits.release_dl,
-            close_clutch_dl: limits.close_clutch_dl,
-            change_dl: limits.change_dl,
-            clutch_open_de: 20,
-            error_clutch_open_de: 60,
-            clutch_close_de: 20,
-            error_clutch_close_de: 60,
-        }
+        let mut table = Table::new_default();
+        table.clutch_open_de = 20;
+        table.error_clutch_open_de = 60;
+        table.clutch_close_de = 20;
+        table.error_clutch_close_de = 60;
+        table
     }
 
     // The table of twenty-two entries.

@@ -1,9 +1,10 @@
 -- Demand 3, first half, of the manual's engine: what it accepts under one table it accepts under any that is nowhere tighter, and its
--- variables then read as the same state.
+-- variables then read as the same state; and so what it accepts under the old default it accepts under the new one.
 -- Assumes nothing.
-use mathlib.Core.Path.{_≡_, sym, subst, _∙_}
+use mathlib.Core.Path.{_≡_, refl, sym, subst, _∙_}
 use mathlib.Core.List.{List}
 use Rattle.limits.specs.declared.Table.{Table}
+use Rattle.limits.specs.Refusals.{byOldDefault, byNewDefault}
 use Rattle.limits.specs.Rules.{brokenRule}
 use Rattle.limits.specs.Tighter.{NowhereTighter}
 use Rattle.shift.specs.declared.State.{State}
@@ -11,6 +12,7 @@ use Rattle.shift.specs.declared.Reading.{Reading}
 use Rattle.shift.specs.States.{start}
 use Rattle.shift.specs.Runs.{run}
 use Rattle.promises.proofs.Promises.{accepted-by-a-looser-table}
+use Rattle.promises.proofs.Defaults.{the-new-default-is-nowhere-tighter}
 use Rattle.manual.specs.Runs as manual
 use Rattle.manual.specs.Variables.{initialisation}
 use Rattle.manual_agreement.specs.Agreement.{Reads, Agrees}
@@ -39,3 +41,9 @@ accepted-by-a-looser-table-in-the-manual's-engine t u a b l rs z =
       reads = m .reads;
       reads′ = n .reads;
     }
+
+pub accepted-by-the-new-default-in-the-manual's-engine :
+    (rs : List Reading) → manual.run byOldDefault initialisation rs .number ≡ 0
+    → AcceptAlike (manual.run byOldDefault initialisation rs) (manual.run byNewDefault initialisation rs)
+accepted-by-the-new-default-in-the-manual's-engine =
+    accepted-by-a-looser-table-in-the-manual's-engine byOldDefault byNewDefault refl refl the-new-default-is-nowhere-tighter

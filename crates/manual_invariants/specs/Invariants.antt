@@ -160,7 +160,7 @@ pub record FlagInvariants (v : Variables) : Type 0 where
 -- ---- times
 
 -- SyncOpen_DL and ZeroOpen_DL of contexts c2 and c3 are no entries of the table. Context c5 bounds them from below by these sums
--- (axm5, axm3), so that what holds under the sums holds under them; by default the sums are 355 and 455, as the manual has them
+-- (axm5, axm3), so that what holds under the sums holds under them; by both defaults the sums are 355 and 455, as the manual has them
 abbrev pub «SyncOpen_DL» : Table → ℕ
 «SyncOpen_DL» t = t .«sync_dl» + t .«open_clutch_dl»
 

@@ -24,6 +24,8 @@ use Rattle.munasirel.proofs.munasirel_advance_block as advance-block
 use Rattle.munasirel.proofs.munasirel_judge.Reads as judge-reads
 use Rattle.munasirel.proofs.munasirel_verdict.Reads as verdict-reads
 use Rattle.munasirel.proofs.munasirel_admit.Reads as admit-reads
+use Rattle.munasirel.proofs.munasirel_old_default.Reads as old-default-reads
+use Rattle.munasirel.proofs.munasirel_new_default.Reads as new-default-reads
 use Rattle.munasirel.proofs.munasirel_house.Reads as house-reads
 use Rattle.munasirel.proofs.munasirel_table.Reads as table-reads
 use Rattle.munasirel.proofs.munasirel_line.Reads as line-reads
@@ -41,6 +43,12 @@ munasirel-verdict κs a x y at at′ p q = p ∙ sym q
 
 pub munasirel-admit : Determined admit-reads.Post
 munasirel-admit κs a x y at at′ p q = p ∙ sym q
+
+pub munasirel-old-default : Determined old-default-reads.Post
+munasirel-old-default κs a x y at at′ p q = p ∙ sym q
+
+pub munasirel-new-default : Determined new-default-reads.Post
+munasirel-new-default κs a x y at at′ p q = p ∙ sym q
 
 pub munasirel-house : Determined house-reads.Post
 munasirel-house κs a x y at at′ p q = p ∙ sym q

@@ -5,8 +5,8 @@ use mathlib.Core.Path.{_≡_, refl, sym, subst}
 use Prim.Native.Nat.{_≤_}
 use denote.Ref.{now}
 use Rattle.checks.specs.Conditions.{FirstOf}
-use Rattle.limits.specs.Refusals.{byHouse, Admitted, broken}
-use Rattle.limits.proofs.Refusals.{both-are-admitted, in-order, at-most-16}
+use Rattle.limits.specs.Refusals.{byOldDefault, byNewDefault, byHouse, Admitted, broken}
+use Rattle.limits.proofs.Refusals.{all-three-are-admitted, in-order, at-most-16}
 use Rattle.line.specs.Refusals.{LineAnswers}
 use Rattle.line.proofs.Refusals.{line-answers}
 use Rattle.shiftlist.specs.Refusals.{BuildAnswers, FetchAnswers}
@@ -26,6 +26,8 @@ use Rattle.munasirel.specs.Calls.{wishOf}
 use Rattle.munasirel.proofs.munasirel_judge.Reads as judge-reads
 use Rattle.munasirel.proofs.munasirel_verdict.Reads as verdict-reads
 use Rattle.munasirel.proofs.munasirel_admit.Reads as admit-reads
+use Rattle.munasirel.proofs.munasirel_old_default.Reads as old-default-reads
+use Rattle.munasirel.proofs.munasirel_new_default.Reads as new-default-reads
 use Rattle.munasirel.proofs.munasirel_house.Reads as house-reads
 use Rattle.munasirel.proofs.munasirel_line.Reads as line-reads
 use Rattle.munasirel.proofs.munasirel_join.Reads as join-reads
@@ -44,9 +46,15 @@ munasirel-judge κs a r at p = (verdictOf (now (a .0)), p, judge-answers (now (a
 pub munasirel-verdict : (κs : _) (a : _) (r : _) (at : _) → verdict-reads.Post κs a r at → JudgeAnswers (now (a .0)) r
 munasirel-verdict κs a r at p = subst (JudgeAnswers (now (a .0))) (sym p) (judge-answers (now (a .0)))
 
--- the house's table by name, and it is admitted
+-- both defaults and the house's table by name, and they are admitted
+pub munasirel-old-default : (κs : _) (a : _) (r : _) (at : _) → old-default-reads.Post κs a r at → (r ≡ byOldDefault) × Admitted r
+munasirel-old-default κs a r at p = rw p (refl, all-three-are-admitted .0)
+
+pub munasirel-new-default : (κs : _) (a : _) (r : _) (at : _) → new-default-reads.Post κs a r at → (r ≡ byNewDefault) × Admitted r
+munasirel-new-default κs a r at p = rw p (refl, all-three-are-admitted .1)
+
 pub munasirel-house : (κs : _) (a : _) (r : _) (at : _) → house-reads.Post κs a r at → (r ≡ byHouse) × Admitted r
-munasirel-house κs a r at p = rw p (refl, both-are-admitted .1)
+munasirel-house κs a r at p = rw p (refl, all-three-are-admitted .2)
 
 pub munasirel-admit :
     (κs : _) (a : _) (r : _) (at : _) → admit-reads.Post κs a r at → FirstOf (broken (a .0)) r × (r ≤ 16)

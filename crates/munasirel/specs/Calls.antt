@@ -9,7 +9,7 @@ use Rattle.limits.specs.declared.Table.{Table}
 use Rattle.stepfile.specs.declared.write.Wish.{Wish}
 use Rattle.stepfile.specs.declared.write.Wish.the-variants.{Given, NoTable}
 use Rattle.stepfile.specs.declared.write.Written.{Written}
-use Rattle.stepfile.specs.Writing.{writtenOf, bufferAfter}
+use Rattle.stepfile.specs.Writing.{wished, writtenOf, bufferAfter}
 
 -- the table to write; 0 is the wish for none
 abbrev pub wishOf : ℕ → Table → Wish
@@ -17,7 +17,7 @@ wishOf k t = cond (eqb k 0) NoTable (Given t)
 
 -- what the writer answers into a buffer, and the buffer afterwards
 abbrev pub writtenFor : ℕ → Table → List ℕ → List ℕ → List ℕ → Written
-writtenFor k t codes amounts out = writtenOf (wishOf k t) codes amounts (length out)
+writtenFor k t codes amounts out = writtenOf (wished (wishOf k t)) codes amounts (length out)
 
 abbrev pub outAfter : ℕ → Table → List ℕ → List ℕ → List ℕ → List ℕ
-outAfter k t codes amounts out = bufferAfter (wishOf k t) codes amounts out
+outAfter k t codes amounts out = bufferAfter (wished (wishOf k t)) codes amounts out

@@ -1,6 +1,6 @@
 // What a host in C calls: judging, the limit table, the line, joining, writing, the list of shifts, and advancing a state that the host keeps.
 ghost use mathlib.Core.Path.{_≡_};
-ghost use Rattle.limits.specs.Limits.{house};
+ghost use Rattle.limits.specs.Limits.{oldDefault, newDefault, house};
 ghost use Rattle.limits.specs.Rules.{brokenRule};
 ghost use Rattle.stepfile.specs.Files.{tableIn};
 ghost use Rattle.line.specs.Laying.{laid, after};
@@ -44,6 +44,22 @@ pub extern "C" fn munasirel_admit(table: Table) -> u8
     table.broken_rule()
 }
 
+// The old default, under which a file without a table is judged for ever.
+#[no_mangle]
+pub extern "C" fn munasirel_old_default() -> Table
+    ensures { λ r. ⌜ r ≡ oldDefault ⌝ }
+{
+    Table::old_default()
+}
+
+// The new default, which is handed out now.
+#[no_mangle]
+pub extern "C" fn munasirel_new_default() -> Table
+    ensures { λ r. ⌜ r ≡ newDefault ⌝ }
+{
+    Table::new_default()
+}
+
 // The house's table, for the clutch unit that cannot answer at once.
 #[no_mangle]
 pub extern "C" fn munasirel_house() -> Table
@@ -52,7 +68,7 @@ pub extern "C" fn munasirel_house() -> Table
     Table::house()
 }
 
-// The table of a file; of one that has none, the default.
+// The table of a file; of one that has none, the old default.
 #[no_mangle]
 pub extern "C" fn munasirel_table(file: &[u8]) -> Table
     ensures { λ r. ⌜ r ≡ tableIn (now (file .entry)) ⌝ }
@@ -85,7 +101,7 @@ pub extern "C" fn munasirel_join(
     joined.number
 }
 
-// Writes a step file into `out`, of two lists of one length, with the table or, where `with_table` is 0, without one.
+// Writes a step file into `out`, of two lists of one length, with the table or, where `with_table` is 0, with the new default.
 #[no_mangle]
 pub extern "C" fn munasirel_write(
     table: Table,

@@ -14,3 +14,4 @@ pub mod Boxes
 pub mod Errors
 pub mod Before
 pub mod OldFleet
+pub mod Defaults

@@ -1,13 +1,13 @@
 -- Document 01, "Small table of known runs": K1 to K13, and the statement that the definitions give these answers, the state in all of
--- its fields; the case for which document 02 moved the box and added the reset; excesses that can be followed by hand; and runs on both
--- sides of each delay of the house.
+-- its fields; the case for which document 02 moved the box and added the reset; excesses that can be followed by hand; runs on both sides
+-- of each delay of the house; and a list that the new default accepts and the old one refuses.
 -- Assumes nothing.
 use mathlib.Core.Path.{_≡_, refl}
 use mathlib.Core.List.{List, [], _∷_, _++_, map}
 use Prim.Native.Nat.{ℕ}
 use lib.ListN.{set}
 use Rattle.limits.specs.declared.Table.{Table}
-use Rattle.limits.specs.Limits.{limits, entries, tableOf, default, house}
+use Rattle.limits.specs.Limits.{limits, entries, tableOf, oldDefault, newDefault, house}
 use Rattle.limits.specs.Rules.{brokenRule}
 use Rattle.shift.specs.declared.State.{State}
 use Rattle.shift.specs.declared.Reading.{Reading}
@@ -111,9 +111,9 @@ cases =
     ∷ known (wouldNotClose ++ (t 9 ∷ step 13 ∷ step 1 ∷ [])) 16 8 (state 160 inGear 0 160 none 160 0 0)
     ∷ []
 
--- the default table with another ChangeDL
+-- the old default with another ChangeDL
 abbrev changing : ℕ → Table
-changing n = tableOf (set (entries default) 17 n)
+changing n = tableOf (set (entries oldDefault) 17 n)
 
 -- phase 1, phase time 0, stage good
 abbrev goodAt : ℕ → State
@@ -125,16 +125,16 @@ answered number excess s = record { number = number; rule = 0; excess = excess; 
 -- K1 to K11 end so; K12: rule 14 is broken at 1,404 and none at 1,405; K13: a take is accepted at 150 and leads to phase 3, and is
 -- refused with 10 at 151, which is 1 over
 pub record KnownRuns : Type 0 where
-  pub k1-k11 : map (λ k. run default start (k .steps)) runs ≡ map (λ k. k .ends) runs
+  pub k1-k11 : map (λ k. run oldDefault start (k .steps)) runs ≡ map (λ k. k .ends) runs
   pub k12 : map (λ n. brokenRule (changing n)) (1404 ∷ 1405 ∷ []) ≡ 14 ∷ 0 ∷ []
   pub k13 :
-      map (λ n. stepOn default (goodAt n) 8 0) (150 ∷ 151 ∷ [])
+      map (λ n. stepOn oldDefault (goodAt n) 8 0) (150 ∷ 151 ∷ [])
       ≡ answered 0 0 (state 150 neutral 3 150 sent 150 0 0) ∷ answered 10 1 (goodAt 151) ∷ []
 
 pub known-runs : KnownRuns
 known-runs = record { k1-k11 = refl; k12 = refl; k13 = refl }
 
-pub the-customer's-case : map (λ k. run default start (k .steps)) cases ≡ map (λ k. k .ends) cases
+pub the-customer's-case : map (λ k. run oldDefault start (k .steps)) cases ≡ map (λ k. k .ends) cases
 the-customer's-case = refl
 
 -- ---- how far over: a tick past both limits is measured against the channel's, 155 past it and 5 past the phase's; one that the clock
@@ -143,9 +143,9 @@ abbrev waitingFrom : ℕ → State
 waitingFrom time = state 0 neutral 1 time waiting 0 0 0
 
 pub record HowFarOver : Type 0 where
-  pub past-both : run default start (step 1 ∷ t 160 ∷ []) ≡ over (step 1 ∷ t 160 ∷ []) 1 12 155 (state 0 neutral 1 0 sent 0 0 0) .ends
-  pub past-the-clock : stepOn default (state 4294967290 neutral 0 0 none 0 0 0) 12 12 ≡ answered 13 7 (state 4294967290 neutral 0 0 none 0 0 0)
-  pub past-32-bits : stepOn default (waitingFrom 4294967295) 9 0 ≡ answered 9 4294967446 (waitingFrom 4294967295)
+  pub past-both : run oldDefault start (step 1 ∷ t 160 ∷ []) ≡ over (step 1 ∷ t 160 ∷ []) 1 12 155 (state 0 neutral 1 0 sent 0 0 0) .ends
+  pub past-the-clock : stepOn oldDefault (state 4294967290 neutral 0 0 none 0 0 0) 12 12 ≡ answered 13 7 (state 4294967290 neutral 0 0 none 0 0 0)
+  pub past-32-bits : stepOn oldDefault (waitingFrom 4294967295) 9 0 ≡ answered 9 4294967446 (waitingFrom 4294967295)
 
 pub how-far-over : HowFarOver
 how-far-over = record { past-both = refl; past-the-clock = refl; past-32-bits = refl }
@@ -192,3 +192,20 @@ pub record KnownDelays : Type 0 where
 
 pub known-delays : KnownDelays
 known-delays = record { runs = refl; broken = refl; kept = refl }
+
+-- ---- the two defaults: K1 with 10 ms for each message, on a bus that the old default has 5 ms for. The new one accepts it: clock 430, at
+-- rest, in gear; the old one refuses the first tick with 12, 5 over. At 11 ms both do
+abbrev messages : ℕ → List Reading
+messages n =
+    step 1 ∷ t n ∷ step 4 ∷ t 100 ∷ step 5 ∷ t n ∷ step 8 ∷ step 4 ∷ t 300 ∷ step 5 ∷ t n ∷ step 8 ∷ step 11 ∷ []
+
+pub record KnownDefaults : Type 0 where
+  pub new-accepts : run newDefault start (messages 10) ≡ known (messages 10) 13 0 (state 430 inGear 0 430 none 430 0 0) .ends
+  pub old-refuses : run oldDefault start (messages 10) ≡ over (messages 10) 1 12 5 (state 0 neutral 1 0 sent 0 0 0) .ends
+  pub both-accept :
+      map (λ u. run u start (messages 5)) (oldDefault ∷ newDefault ∷ [])
+      ≡ map (λ s. known (messages 5) 13 0 s .ends) (state 415 inGear 0 415 none 415 0 0 ∷ state 415 inGear 0 415 none 415 0 0 ∷ [])
+  pub new-refuses : run newDefault start (messages 11) ≡ over (messages 11) 1 12 1 (state 0 neutral 1 0 sent 0 0 0) .ends
+
+pub known-defaults : KnownDefaults
+known-defaults = record { new-accepts = refl; old-refuses = refl; both-accept = refl; new-refuses = refl }

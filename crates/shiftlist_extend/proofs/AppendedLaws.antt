@@ -13,7 +13,6 @@ use Rattle.promises.proofs.Runs.{joined, pieces}
 use Rattle.shift.specs.declared.State.{State}
 use Rattle.shift.specs.States.{start}
 use Rattle.shift.specs.Runs.{Outcome, run}
-use Rattle.stepfile.specs.declared.write.Wish.the-variants.{Given}
 use Rattle.stepfile.specs.Records.{recordOf, recordsIn}
 use Rattle.stepfile.specs.Files.{recordCount, recordOffset, tableIn, refusalOf, recordBytes, readingsOf}
 use Rattle.stepfile.specs.Writing.{mostFor}
@@ -74,10 +73,10 @@ module _ (f g bytes : List ℕ) (a : Appended f g bytes) where
   pub readings-are : readingsOf g ≡ readingsOf f ++ recordsIn bytes
   readings-are = ap recordsIn (a .records) ∙ records-append (recordCount f) (recordBytes f) bytes (bytes-long f good-f)
 
-  pub few-records : count + length bytes / 4 ≤ mostFor (Given (tableIn f))
+  pub few-records : count + length bytes / 4 ≤ mostFor (tableIn f)
   few-records =
       let all = sym (bytes-long g (a .good)) ∙ ap length (a .records) ∙ length-append (recordBytes f) bytes in
-      let most = ap (λ (t : Table). mostFor (Given t)) (a .table) in
+      let most = ap mostFor (a .table) in
       omega (arith, all, bytes-long f good-f, no-more-than-written g (a .good), most, accepted-files f good-f (a .accepted))
 
   pub admitted : brokenRule (tableIn f) ≡ 0

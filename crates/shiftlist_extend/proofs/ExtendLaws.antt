@@ -20,7 +20,6 @@ use Rattle.promises.proofs.Promises.{accepted-up-to-the-first-forbidden-step}
 use Rattle.shift.specs.declared.State.{State}
 use Rattle.shift.specs.declared.Reading.{Reading}
 use Rattle.shift.specs.Runs.{Outcome, run}
-use Rattle.stepfile.specs.declared.write.Wish.the-variants.{Given}
 use Rattle.stepfile.specs.Records.{recordsIn}
 use Rattle.stepfile.specs.Writing.{entriesFor, mostFor}
 use Rattle.stepfile.proofs.EntryLaws.{most-between}
@@ -130,7 +129,7 @@ module _ (l : List ℕ) (held : ℕ) (s : State) (count : ℕ) (t : Table) (byte
       first (groundsBy (length l) held (u32At l 4) (u32At l 0) (lastEntry l held s count t bytes) s count (length bytes / 4) most rule)
 
   pub by-rule :
-      (rule most k : ℕ) → rule ≡ brokenRule t → most ≡ mostFor (Given t) → k ≡ groundFor most rule
+      (rule most k : ℕ) → rule ≡ brokenRule t → most ≡ mostFor t → k ≡ groundFor most rule
       → k ≡ first (grounds l held s count t bytes)
   by-rule rule most k e m h = h ∙ ap (groundFor most) e ∙ ap (λ n. groundFor n (brokenRule t)) m
 
@@ -146,7 +145,7 @@ module _ (l : List ℕ) (held : ℕ) (s : State) (count : ℕ) (t : Table) (byte
     pub told : Grounded (length l) held (u32At l 0) (lastEntry l held s count t bytes) s count (length bytes / 4)
     told =
         grounded (length l) held (u32At l 4) (u32At l 0) (lastEntry l held s count t bytes) s count (length bytes / 4)
-        (mostFor (Given t)) (brokenRule t) (most-between (length (entriesFor t)) .1) g
+        (mostFor t) (brokenRule t) (most-between (length (entriesFor t)) .1) g
 
     pub at-run : (o : Outcome) → o ≡ run t s (recordsIn bytes) → ¬ (o .number ≡ 0) → Leaves (refusedBy (o .number) 0 (count + o .count) (o .excess)) l
     at-run o e m =

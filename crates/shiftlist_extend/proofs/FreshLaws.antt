@@ -16,7 +16,6 @@ use Rattle.numbers.specs.Bytes.{u32At}
 use Rattle.phases.specs.Phases.{unfinished}
 use Rattle.shift.specs.declared.State.{State}
 use Rattle.shift.specs.States.{start}
-use Rattle.stepfile.specs.declared.write.Wish.the-variants.{Given}
 use Rattle.stepfile.specs.Records.{recordsIn}
 use Rattle.stepfile.specs.Files.{tableIn}
 use Rattle.stepfile.specs.Writing.{mostFor}
@@ -97,7 +96,7 @@ module _ (f g bytes tail : List ℕ) (a : Appended f g bytes) where
   no-ground =
       let long = list-long old in
       let all = length-append (listOf old) tail in
-      sym (last-ground (length list) held (u32At list 4) (u32At list 0) last end records (length bytes / 4) (mostFor (Given (tableIn f))) (brokenRule (tableIn f)) (omega (arith, long, all)) (omega arith)
+      sym (last-ground (length list) held (u32At list 4) (u32At list 0) last end records (length bytes / 4) (mostFor (tableIn f)) (brokenRule (tableIn f)) (omega (arith, long, all)) (omega arith)
       refl (omega (arith, count-read)) (few-records f g bytes a) (omega (arith, count-read, many f g bytes a)) (admitted f g bytes a) true
       (ap (λ k. fits k last end records) count-read ∙ fit))
 

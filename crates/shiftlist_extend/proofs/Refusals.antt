@@ -21,7 +21,6 @@ use Rattle.phases.specs.Phases.{unfinished}
 use Rattle.shift.specs.declared.State.{State}
 use Rattle.shift.specs.declared.Reading.{Reading}
 use Rattle.shift.specs.Runs.{Outcome, run}
-use Rattle.stepfile.specs.declared.write.Wish.the-variants.{Given}
 use Rattle.stepfile.specs.Records.{recordsIn}
 use Rattle.stepfile.specs.Writing.{mostFor}
 use Rattle.stepfile.specs.Refusals.{bits32, RuleFor}
@@ -117,7 +116,7 @@ module _ (l : List ℕ) (held : ℕ) (s : State) (count : ℕ) (t : Table) (byte
       ∷ (leb 8 held ! 1)
       ∷ (eqb (u32At l 4) 8 ! 2)
       ∷ (eqb held (8 + 16 * u32At l 0) ! 3)
-      ∷ (leb (count + length bytes / 4) (mostFor (Given t)) ! 2)
+      ∷ (leb (count + length bytes / 4) (mostFor t) ! 2)
       ∷ (leb (u32At l 0) count ! 2)
       ∷ []
 

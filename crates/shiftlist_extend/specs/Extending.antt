@@ -15,7 +15,6 @@ use Rattle.phases.specs.Phases.{unfinished}
 use Rattle.shift.specs.declared.State.{State}
 use Rattle.shift.specs.declared.Reading.{Reading}
 use Rattle.shift.specs.Runs.{Outcome, run}
-use Rattle.stepfile.specs.declared.write.Wish.the-variants.{Given}
 use Rattle.stepfile.specs.Records.{recordsIn}
 use Rattle.stepfile.specs.Writing.{mostFor}
 use Rattle.shiftlist.specs.declared.Shift.{Shift}
@@ -66,7 +65,7 @@ module _ (l : List ℕ) (held : ℕ) (s : State) (count : ℕ) (t : Table) (byte
 
   -- the maximum is by how the table would be written
   abbrev pub grounds : List Check
-  grounds = groundsBy (length l) held (u32At l 4) (u32At l 0) lastEntry s count (length bytes / 4) (mostFor (Given t)) (brokenRule t)
+  grounds = groundsBy (length l) held (u32At l 4) (u32At l 0) lastEntry s count (length bytes / 4) (mostFor t) (brokenRule t)
 
   abbrev pub laid : List Shift
   laid = laidOn (unfinished (s .phase)) lastEntry count s (recordsIn bytes)

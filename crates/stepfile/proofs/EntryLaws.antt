@@ -17,7 +17,7 @@ use Rattle.limits.proofs.Refusals.{zeros}
 use Rattle.stepfile.specs.declared.write.Wish.{Wish}
 use Rattle.stepfile.specs.declared.write.Wish.the-variants.{Given, NoTable}
 use Rattle.stepfile.specs.Files.{mostRecords}
-use Rattle.stepfile.specs.Writing.{wished, entriesFor, entriesOf}
+use Rattle.stepfile.specs.Writing.{wished, entriesFor}
 use Rattle.stepfile.specs.Refusals.{TooMany, WrittenWith}
 
 -- ---- none, eighteen or twenty-two
@@ -91,27 +91,19 @@ module _ (t : Table) where
       (λ n. ap tableOf (in-twenty-two n))
       delays
 
-  taken : take (length (entriesFor t)) (entries t) ≡ entriesFor t
-  taken = ⊎-elim (λ n. rw (in-eighteen n)) (λ n. rw (in-twenty-two n)) delays
+  pub entries-taken : take (length (entriesFor t)) (entries t) ≡ entriesFor t
+  entries-taken = ⊎-elim (λ n. rw (in-eighteen n)) (λ n. rw (in-twenty-two n)) delays
+
+  pub no-more-than-22 : length (entriesFor t) ≤ 22
+  no-more-than-22 = at-most-22 (length (entriesFor t)) (inr how-many)
 
 -- ---- of a wish
-pub entries-taken : (w : Wish) → take (length (entriesOf w)) (entries (wished w)) ≡ entriesOf w
-entries-taken (Given t) = taken t
-entries-taken NoTable = refl
-
-pub few-entries : (w : Wish) → Few (length (entriesOf w))
-few-entries (Given t) = inr (how-many t)
-few-entries NoTable = inl refl
-
-pub no-more-than-22 : (w : Wish) → length (entriesOf w) ≤ 22
-no-more-than-22 w = at-most-22 (length (entriesOf w)) (few-entries w)
-
-pub written-with : (w : Wish) → WrittenWith w (length (entriesOf w))
+pub written-with : (w : Wish) → WrittenWith w (length (entriesFor (wished w)))
 written-with (Given t) =
     ⊎-elim (λ n. inl (n, ap length (in-eighteen t n))) (λ n. inr (n, ap length (in-twenty-two t n))) (delays t)
 written-with NoTable = refl
 
-pub with-no-others : (w : Wish) (k : ℕ) → WrittenWith w k → k ≡ length (entriesOf w)
+pub with-no-others : (w : Wish) (k : ℕ) → WrittenWith w k → k ≡ length (entriesFor (wished w))
 with-no-others (Given t) k (inl h) = h .1 ∙ sym (ap length (in-eighteen t (h .0)))
 with-no-others (Given t) k (inr h) = h .1 ∙ sym (ap length (in-twenty-two t (h .0)))
 with-no-others NoTable k e = e

@@ -79,8 +79,8 @@ module _ (f : List ℕ) where
   abbrev tableRefusals : List Condition
   tableRefusals = ((¬ (k ≡ 0) → Admitted (tableBehind f)) else 4) ∷ []
 
-  not-default : ¬ (brokenRule (tableIn f) ≡ 0) → ¬ (k ≡ 0)
-  not-default n e = n (ap brokenRule (without-entries f e))
+  has-entries : ¬ (brokenRule (tableIn f) ≡ 0) → ¬ (k ≡ 0)
+  has-entries n e = n (ap brokenRule (without-entries f e))
 
   module _ (h : Holds (headed f)) where
     as-many : Few k → ¬ (k ≡ 0) → tableIn f ≡ tableBehind f
@@ -99,7 +99,7 @@ module _ (f : List ℕ) where
           (
             λ t all.
                 let n = neqb→ne (brokenRule (tableIn f)) 0 t in
-                let e = not-default n in
+                let e = has-entries n in
                 not-admitted (tableBehind f) (λ z. n (ap brokenRule (with-table e) ∙ z)) (all e),
             (
               λ t n. n (λ e. admitted (tableBehind f) (ap brokenRule (sym (with-table e)) ∙ eqb→eq (brokenRule (tableIn f)) 0 t)),
@@ -130,7 +130,7 @@ module _ (f : List ℕ) where
       let h = first-append 4 (headed f) (tested ∷ []) tt e in
       let same : refusalOf f .rule ≡ brokenRule (tableIn f) = rw (eq-eqb (refusalOf f .number) 4 e) in
       let n : ¬ (brokenRule (tableIn f) ≡ 0) = λ z. let q = rw (eq-eqb (brokenRule (tableIn f)) 0 z) at (h .1) in omega arith in
-      (same ∙ ap brokenRule (with-table (h .0) (not-default n)), λ z. n (sym same ∙ z))
+      (same ∙ ap brokenRule (with-table (h .0) (has-entries n)), λ z. n (sym same ∙ z))
 
   pub file-answers : FileAnswers f (refusalOf f .number) (refusalOf f .rule)
   file-answers =

@@ -11,6 +11,7 @@ pub mod ReadLaws
 pub mod WholeLaws
 pub mod RoundTrip
 pub mod RoundTripCalls
+pub mod WishForNone
 pub mod GoodFiles
 pub mod FileRefusals
 pub mod RecordRefusals

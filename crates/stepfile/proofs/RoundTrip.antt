@@ -1,5 +1,5 @@
--- What is written reads back, as a good file with the table that was wished and the steps that were given; of a good file whose
--- records are all steps the writer makes the same file; and of one of twenty-two entries with four zeros a file of eighteen.
+-- What is written reads back, as a good file with the table and the steps that were given; of a good file whose records are all steps
+-- the writer makes the same file; and of one without entries, or of twenty-two with four zeros, a file of eighteen.
 -- Assumes nothing.
 use mathlib.Core.Path.{_≡_, refl, sym, ap, _∙_, subst}
 use mathlib.Core.Logic.{_⊎_, inl, inr}
@@ -14,19 +14,17 @@ use Rattle.checks.proofs.Tests.{tests}
 use Rattle.limits.specs.declared.Table.{Table}
 use Rattle.limits.specs.Limits.{entries, tableOf}
 use Rattle.limits.specs.Rules.{brokenRule}
-use Rattle.stepfile.specs.declared.write.Wish.{Wish}
-use Rattle.stepfile.specs.declared.write.Wish.the-variants.{Given, NoTable}
 use Rattle.numbers.specs.Bytes.{u16At, u16sAt, bytesOf}
 use Rattle.stepfile.specs.Records.{recordOf, everyFour, recordsIn}
 use Rattle.stepfile.specs.Files.{tableEntries, recordOffset, recordCount, mostRecords, headed, tableIn, refusalOf, recordBytes, readingsOf}
-use Rattle.stepfile.specs.Writing.{wished, entriesFor, entriesOf, mostFor, headerOf, recordsOf, fileWith, fileOf, firstWrong, lists, writable}
-use Rattle.stepfile.specs.RoundTrip.{Bytes, readingsBy, AllRead, codesOf, amountsOf, FourZeros, wishIn, codesIn, amountsIn}
-use Rattle.stepfile.proofs.EntryLaws.{Few, at-most-22, how-many, same-table, few-entries}
+use Rattle.stepfile.specs.Writing.{entriesFor, mostFor, headerOf, recordsOf, fileWith, fileOf, firstWrong, lists, writable}
+use Rattle.stepfile.specs.RoundTrip.{Bytes, readingsBy, AllRead, codesOf, amountsOf, OtherEntries, codesIn, amountsIn}
+use Rattle.stepfile.proofs.EntryLaws.{Few, at-most-22, how-many, same-table}
 use Rattle.stepfile.proofs.WritingLaws.{size}
-use Rattle.stepfile.proofs.TableLaws.{dropped, read-back, entries-back, offset-back, count-back, with-twenty-two, with-eighteen, without-entries, headed-well, well, records-from, behind}
+use Rattle.stepfile.proofs.TableLaws.{dropped, read-back, entries-back, offset-back, count-back, with-twenty-two, with-eighteen, headed-well, well, records-from, behind}
 use Rattle.stepfile.proofs.StepLaws.{records-back, all-read}
 use Rattle.stepfile.proofs.ReadLaws.{counted, records-written, none-wrong}
-use Rattle.stepfile.proofs.WholeLaws.{GoodFile, good-file, numbers-written, length-u16sAt, six, wished-in, entries-in, entries-in-four-zeros, no-more-than-wished, assembled}
+use Rattle.stepfile.proofs.WholeLaws.{GoodFile, good-file, numbers-written, length-u16sAt, six, others-in-eighteen, entries-in, no-more-than-written, assembled}
 
 -- ---- a file with entries, codes and amounts
 module _ (es cs ns : List ℕ) (e : length cs ≡ length ns) where
@@ -78,33 +76,31 @@ accepted : (a b m r : ℕ) → first (lists a b m r) ≡ 0 → (a ≡ b) × (a �
 accepted a b m r e = let h = first→holds 0 (lists a b m r) tt e .0 in omega (arith, tests)
 
 known :
-    (w : Wish) (cs ns : List ℕ) → first (writable w cs ns) ≡ 0
-    → (length cs ≡ length ns) × (length cs ≤ mostFor w) × (brokenRule (wished w) ≡ 0)
-known w cs ns e = accepted (length cs) (length ns) (mostFor w) (brokenRule (wished w)) e
+    (t : Table) (cs ns : List ℕ) → first (writable t cs ns) ≡ 0
+    → (length cs ≡ length ns) × (length cs ≤ mostFor t) × (brokenRule t ≡ 0)
+known t cs ns e = accepted (length cs) (length ns) (mostFor t) (brokenRule t) e
 
-pub written-reads-back-the-table : (w : Wish) (cs ns : List ℕ) → first (writable w cs ns) ≡ 0 → tableIn (fileOf w cs ns) ≡ wished w
-written-reads-back-the-table (Given t) cs ns e =
-    table-of (entriesFor t) cs ns (known (Given t) cs ns e .0) (how-many t) ∙ same-table t
-written-reads-back-the-table NoTable cs ns e =
-    without-entries (fileOf NoTable cs ns) (entries-back 0 (length cs) (recordsOf cs ns))
+module _ (t : Table) (cs ns : List ℕ) (e : first (writable t cs ns) ≡ 0) where
+  pub written-in-so-many : tableEntries (fileOf t cs ns) ≡ length (entriesFor t)
+  written-in-so-many = entries-of (entriesFor t) cs ns (known t cs ns e .0)
 
-pub written-is-good : (w : Wish) (cs ns : List ℕ) → first (writable w cs ns) ≡ 0 → refusalOf (fileOf w cs ns) .number ≡ 0
-written-is-good w cs ns e =
-    let h = known w cs ns e in
-    well
-    (fileOf w cs ns)
-    (header-is-good (entriesOf w) cs ns (h .0) (few-entries w) (h .1))
-    (ap brokenRule (written-reads-back-the-table w cs ns e) ∙ h .2)
+  pub written-reads-back-the-table : tableIn (fileOf t cs ns) ≡ t
+  written-reads-back-the-table = table-of (entriesFor t) cs ns (known t cs ns e .0) (how-many t) ∙ same-table t
 
-pub written-reads-back-the-steps :
-    (w : Wish) (cs ns : List ℕ) → first (writable w cs ns) ≡ 0 → firstWrong 0 cs ns .number ≡ 0
-    → readingsOf (fileOf w cs ns) ≡ readingsBy cs ns
-written-reads-back-the-steps w cs ns e r =
-    ap recordsIn (record-bytes (entriesOf w) cs ns (known w cs ns e .0) (written-is-good w cs ns e)) ∙ records-back 0 cs ns r
+  pub written-is-good : refusalOf (fileOf t cs ns) .number ≡ 0
+  written-is-good =
+      let h = known t cs ns e in
+      well
+      (fileOf t cs ns)
+      (header-is-good (entriesFor t) cs ns (h .0) (inr (how-many t)) (h .1))
+      (ap brokenRule written-reads-back-the-table ∙ h .2)
 
-pub written-steps-all-read :
-    (w : Wish) (cs ns : List ℕ) → first (writable w cs ns) ≡ 0 → firstWrong 0 cs ns .number ≡ 0 → AllRead (readingsBy cs ns)
-written-steps-all-read w cs ns e r = all-read 0 cs ns r
+  pub written-reads-back-the-steps : firstWrong 0 cs ns .number ≡ 0 → readingsOf (fileOf t cs ns) ≡ readingsBy cs ns
+  written-reads-back-the-steps r =
+      ap recordsIn (record-bytes (entriesFor t) cs ns (known t cs ns e .0) written-is-good) ∙ records-back 0 cs ns r
+
+  pub written-steps-all-read : firstWrong 0 cs ns .number ≡ 0 → AllRead (readingsBy cs ns)
+  written-steps-all-read r = all-read 0 cs ns r
 
 -- ---- any admitted table, also one whose delays are 0, reads back from twenty-two entries
 pub twenty-two-entries-read-back :
@@ -149,20 +145,28 @@ module _ (f : List ℕ) (b : Bytes f) (e : refusalOf f .number ≡ 0) (all : All
   as-long : length (codesIn f) ≡ length (amountsIn f)
   as-long = codes-count ∙ sym (counted-in _)
 
+  none-is-wrong : firstWrong 0 (codesIn f) (amountsIn f) .number ≡ 0
+  none-is-wrong = ap (λ l. firstWrong 0 (codesOf l) (amountsOf l) .number) records-in ∙ none-wrong 0 records steps-in
+
   records-same : bytesOf (recordsOf (codesIn f) (amountsIn f)) ≡ records
   records-same =
       ap (λ l. bytesOf (recordsOf (codesOf l) (amountsOf l))) records-in
       ∙ records-written (recordCount f) records records-length (λ j. rw getD-drop (b (ends + j))) steps-in
 
+  -- what its codes and amounts mean is what its records mean
+  pub taken-apart-reads-the-same : readingsBy (codesIn f) (amountsIn f) ≡ readingsOf f
+  taken-apart-reads-the-same =
+      sym (records-back 0 (codesIn f) (amountsIn f) none-is-wrong) ∙ ap recordsIn (records-same ∙ sym records-in)
+
   -- its entries are those that are written
-  module _ (z : ¬ FourZeros f) where
-    entries-fit-in : entriesOf (wishIn f) ≡ u16sAt f 12 (tableEntries f)
+  module _ (z : ¬ OtherEntries f) where
+    entries-fit-in : entriesFor (tableIn f) ≡ u16sAt f 12 (tableEntries f)
     entries-fit-in = let w = good .whole in entries-in f (omega arith) (good .few) z
 
-    entries-count : length (entriesOf (wishIn f)) ≡ tableEntries f
+    entries-count : length (entriesFor (tableIn f)) ≡ tableEntries f
     entries-count = ap length entries-fit-in ∙ length-u16sAt f 12 (tableEntries f)
 
-    header-same : headerOf (length (entriesOf (wishIn f))) (length (codesIn f)) ≡ u16sAt f 0 6
+    header-same : headerOf (length (entriesFor (tableIn f))) (length (codesIn f)) ≡ u16sAt f 0 6
     header-same =
         ap (λ k. headerOf k (length (codesIn f))) entries-count
         ∙ ap (λ n. headerOf (tableEntries f) n) codes-count
@@ -182,7 +186,7 @@ module _ (f : List ℕ) (b : Bytes f) (e : refusalOf f .number ≡ 0) (all : All
         (at-most-22 (tableEntries f) (good .few))
         (good .most)
 
-    rest-same : bytesOf (entriesOf (wishIn f)) ++ bytesOf (recordsOf (codesIn f) (amountsIn f)) ≡ drop 12 f
+    rest-same : bytesOf (entriesFor (tableIn f)) ++ bytesOf (recordsOf (codesIn f) (amountsIn f)) ≡ drop 12 f
     rest-same =
         let w = good .whole in
         ap (λ t. bytesOf t ++ bytesOf (recordsOf (codesIn f) (amountsIn f))) entries-fit-in
@@ -190,76 +194,78 @@ module _ (f : List ℕ) (b : Bytes f) (e : refusalOf f .number ≡ 0) (all : All
         ∙ numbers-written f b 12 (tableEntries f) (omega arith)
 
 -- ---- the writer accepts it: its first three checks hold, and no record is wrong
-accepting : (a b m r : ℕ) → a ≡ b → a ≤ m → r ≡ 0 → first (lists a b m r) ≡ 0
+pub accepting : (a b m r : ℕ) → a ≡ b → a ≤ m → r ≡ 0 → first (lists a b m r) ≡ 0
 accepting a b m r p q z = holds→first (lists a b m r) (omega (arith, tests))
 
 pub read-is-writable :
     (f : List ℕ) → Bytes f → refusalOf f .number ≡ 0 → AllRead (readingsOf f)
-    → (first (writable (wishIn f) (codesIn f) (amountsIn f)) ≡ 0) × (firstWrong 0 (codesIn f) (amountsIn f) .number ≡ 0)
+    → (first (writable (tableIn f) (codesIn f) (amountsIn f)) ≡ 0) × (firstWrong 0 (codesIn f) (amountsIn f) .number ≡ 0)
 read-is-writable f b e all =
     let g = good f b e all in (
       accepting
           (length (codesIn f))
           (length (amountsIn f))
-          (mostFor (wishIn f))
-          (brokenRule (wished (wishIn f)))
+          (mostFor (tableIn f))
+          (brokenRule (tableIn f))
           (as-long f b e all)
-          (subst (λ m. m ≤ mostFor (wishIn f)) (sym (codes-count f b e all)) (no-more-than-wished f e))
-          (ap brokenRule (wished-in f (g .few)) ∙ g .admitted),
-      ap (λ l. firstWrong 0 (codesOf l) (amountsOf l) .number) (records-in f b e all)
-          ∙ none-wrong 0 (records f b e all) (steps-in f b e all),
+          (subst (λ m. m ≤ mostFor (tableIn f)) (sym (codes-count f b e all)) (no-more-than-written f e))
+          (g .admitted),
+      none-is-wrong f b e all,
     )
 
--- ---- it is what the writer makes of it, where it has not twenty-two entries with four zeros
+-- ---- it is what the writer makes of it, unless it has no entries, or twenty-two with four zeros
 pub read-is-written-back :
-    (f : List ℕ) → Bytes f → refusalOf f .number ≡ 0 → AllRead (readingsOf f) → ¬ FourZeros f
-    → fileOf (wishIn f) (codesIn f) (amountsIn f) ≡ f
+    (f : List ℕ) → Bytes f → refusalOf f .number ≡ 0 → AllRead (readingsOf f) → ¬ OtherEntries f
+    → fileOf (tableIn f) (codesIn f) (amountsIn f) ≡ f
 read-is-written-back f b e all z =
     let w = good f b e all .whole in
     assembled
     f
-    (entriesOf (wishIn f))
+    (entriesFor (tableIn f))
     (recordsOf (codesIn f) (amountsIn f))
-    (length (entriesOf (wishIn f)))
+    (length (entriesFor (tableIn f)))
     (length (codesIn f))
     b
     (omega arith)
     (header-same f b e all z)
     (rest-same f b e all z)
 
--- ---- of twenty-two entries with four zeros the writer makes eighteen
--- the second file is good and has eighteen entries, the first one's table and its record bytes; it is 8 bytes shorter, so not the same
+-- ---- of no entries, and of twenty-two with four zeros, the writer makes eighteen
+-- the second file is good and has eighteen entries, the first one's table and its record bytes; it is 36 bytes longer or 8 shorter, so
+-- not the same
 pub record InEighteen (f g : List ℕ) : Type 0 where
   pub good : refusalOf g .number ≡ 0
   pub entries : tableEntries g ≡ 18
   pub table : tableIn g ≡ tableIn f
   pub records : recordBytes g ≡ recordBytes f
-  pub shorter : length g + 8 ≡ length f
+  pub size : length g + 2 * tableEntries f ≡ length f + 36
   pub other : ¬ (g ≡ f)
 
-pub four-zeros-are-written-in-eighteen :
-    (f : List ℕ) → Bytes f → refusalOf f .number ≡ 0 → AllRead (readingsOf f) → FourZeros f
-    → InEighteen f (fileOf (wishIn f) (codesIn f) (amountsIn f))
-four-zeros-are-written-in-eighteen f b e all z =
+not-eighteen : (f : List ℕ) → OtherEntries f → ¬ (tableEntries f ≡ 18)
+not-eighteen f (inl z) e = omega arith
+not-eighteen f (inr z) e = omega (arith, z .0)
+
+pub others-are-written-in-eighteen :
+    (f : List ℕ) → Bytes f → refusalOf f .number ≡ 0 → AllRead (readingsOf f) → OtherEntries f
+    → InEighteen f (fileOf (tableIn f) (codesIn f) (amountsIn f))
+others-are-written-in-eighteen f b e all z =
+    let t = tableIn f in
     let cs = codesIn f in
     let ns = amountsIn f in
-    let g = fileOf (wishIn f) cs ns in
     let w = good f b e all .whole in
-    let long : 12 + 2 * tableEntries f ≤ length f = omega arith in
     let writes = read-is-writable f b e all .0 in
-    let eighteen : length (entriesOf (wishIn f)) ≡ 18 = ap length (entries-in-four-zeros f long z) in
-    let s = size (entriesOf (wishIn f)) cs ns (as-long f b e all) in
-    let eight : length g + 8 ≡ length f = omega (arith, z .0, codes-count f b e all) in
+    let eighteen = others-in-eighteen f z in
+    let s = size (entriesFor t) cs ns (as-long f b e all) in
     record {
-      good = written-is-good (wishIn f) cs ns writes;
-      entries = entries-of (entriesOf (wishIn f)) cs ns (as-long f b e all) ∙ eighteen;
-      table = written-reads-back-the-table (wishIn f) cs ns writes ∙ wished-in f (good f b e all .few);
+      good = written-is-good t cs ns writes;
+      entries = written-in-so-many t cs ns writes ∙ eighteen;
+      table = written-reads-back-the-table t cs ns writes;
       records =
-          record-bytes (entriesOf (wishIn f)) cs ns (as-long f b e all) (written-is-good (wishIn f) cs ns writes)
+          record-bytes (entriesFor t) cs ns (as-long f b e all) (written-is-good t cs ns writes)
           ∙ records-same f b e all
           ∙ sym (records-in f b e all);
-      shorter = eight;
-      other = λ same. omega (arith, eight, ap length same);
+      size = omega (arith, codes-count f b e all);
+      other = λ same. not-eighteen f z (sym (ap tableEntries same) ∙ written-in-so-many t cs ns writes ∙ eighteen);
     }
 
 -- ---- a good file has as many records as its header says

@@ -14,8 +14,7 @@ use Rattle.limits.specs.declared.Table.{Table}
 use Rattle.limits.specs.Limits.{entries}
 use Rattle.shift.specs.Answers.{reading, refusal}
 use Rattle.stepfile.specs.declared.write.Wrong.{Wrong}
-use Rattle.stepfile.specs.declared.write.Wish.{Wish}
-use Rattle.stepfile.specs.Writing.{wished, entriesOf, headerOf, recordsOf, fileOf, wrongOr, firstWrong}
+use Rattle.stepfile.specs.Writing.{entriesFor, headerOf, recordsOf, fileOf, wrongOr, firstWrong}
 use Rattle.stepfile.proofs.EntryLaws.{entries-taken}
 
 -- ---- the first n entries of a table
@@ -83,15 +82,15 @@ parts-stored l h e r =
     ∙ ap (λ n. sets m n (bytesOf e ++ bytesOf r)) (zero-add (length (bytesOf h)))
     ∙ sets-append m (length (bytesOf h)) (bytesOf e) (bytesOf r))
 
--- of a wish that is written with k entries
+-- of a table that is written with k entries
 pub file-stored :
-    (l : List ℕ) (w : Wish) (cs ns : List ℕ) (k : ℕ) (t : Table) → k ≡ length (entriesOf w) → t ≡ wished w
+    (l : List ℕ) (t : Table) (cs ns : List ℕ) (k : ℕ) → k ≡ length (entriesFor t)
     → sets (sets (sets l 0 (bytesOf (headerOf k (length cs)))) 12 (bytesOf (take k (entries t)))) (12 + 2 * k) (bytesOf (recordsOf cs ns))
-    ≡ sets l 0 (fileOf w cs ns)
-file-stored l w cs ns k t e f =
-    let es = entriesOf w in
+    ≡ sets l 0 (fileOf t cs ns)
+file-stored l t cs ns k e =
+    let es = entriesFor t in
     let h = headerOf (length es) (length cs) in
     let place : 12 + 2 * length es ≡ 12 + length (bytesOf es) = omega (arith, length-bytesOf es) in
-    rw (e, f, entries-taken w)
+    rw (e, entries-taken t)
     (ap (λ p. sets (sets (sets l 0 (bytesOf h)) 12 (bytesOf es)) p (bytesOf (recordsOf cs ns))) place
     ∙ parts-stored l h es (recordsOf cs ns))

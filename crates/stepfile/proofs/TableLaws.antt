@@ -10,7 +10,7 @@ use lib.Seq.{drop-at, getD-drop}
 use borrow.Author.Tests.{eq-eqb, ne-eqb, le-leb}
 use Rattle.checks.proofs.Checks.{Holds, holds→first}
 use Rattle.checks.proofs.Tests.{tests}
-use Rattle.limits.specs.Limits.{tableOf, default}
+use Rattle.limits.specs.Limits.{tableOf, oldDefault}
 use Rattle.limits.specs.Rules.{brokenRule}
 use Rattle.numbers.specs.Bytes.{u16sAt, bytesOf}
 use Rattle.stepfile.specs.Files.{tableEntries, recordOffset, recordCount, mostRecords, headedBy, headed, tableIn, refusalOf, fromOffset, recordBytes}
@@ -56,7 +56,7 @@ pub with-eighteen : (f : List ℕ) → 48 ≤ length f → tableEntries f ≡ 18
 unfolding tableIn
 with-eighteen f l e = rw (ne-eqb (tableEntries f) 22 (omega arith), eq-eqb (tableEntries f) 18 e, le-leb 48 (length f) l)
 
-pub without-entries : (f : List ℕ) → tableEntries f ≡ 0 → tableIn f ≡ default
+pub without-entries : (f : List ℕ) → tableEntries f ≡ 0 → tableIn f ≡ oldDefault
 unfolding tableIn
 without-entries f e = rw (ne-eqb (tableEntries f) 22 (omega arith), ne-eqb (tableEntries f) 18 (omega arith))
 

@@ -2,24 +2,21 @@
 -- Assumes nothing.
 use mathlib.Core.Path.{_≡_, refl, sym, ap, _∙_}
 use mathlib.Core.Logic.{inl, inr}
-use mathlib.Core.Bool.{cond}
 use mathlib.Core.List.{List, [], _∷_, _++_}
 use Prim.Native.Nat.{ℕ, zero, suc, _+_, _*_, _/_, _%_, _≤_, _<_}
 use native.Mathlib.Omega.{arith}
 use lib.Dec.{eqb}
 use lib.ListN.{length, getD, drop}
 use lib.Seq.{drop-cons}
-use borrow.Author.Tests.{eq-eqb, ne-eqb}
 use Rattle.checks.specs.Checks.{_!_, first}
 use Rattle.checks.proofs.Checks.{first→holds}
-use Rattle.checks.proofs.Tests.{tests, case}
-use Rattle.limits.specs.Limits.{limits, entries}
+use Rattle.checks.proofs.Tests.{tests}
+use Rattle.limits.specs.Limits.{entries}
 use Rattle.limits.specs.Rules.{brokenRule}
-use Rattle.stepfile.specs.declared.write.Wish.the-variants.{Given, NoTable}
 use Rattle.numbers.specs.Bytes.{u16At, u16sAt, bytesOf}
 use Rattle.stepfile.specs.Files.{tableOffset, tableEntries, recordOffset, recordCount, mostRecords, headedBy, tableIn, refusalOf}
-use Rattle.stepfile.specs.Writing.{wished, entriesFor, entriesOf, mostFor, headerOf}
-use Rattle.stepfile.specs.RoundTrip.{Bytes, FourZeros, wishIn}
+use Rattle.stepfile.specs.Writing.{entriesFor, mostFor, headerOf}
+use Rattle.stepfile.specs.RoundTrip.{Bytes, OtherEntries}
 use Rattle.numbers.proofs.StoreLaws.{bytesOf-append}
 use Rattle.stepfile.proofs.EntryLaws.{Few, few, most-between, in-eighteen, in-twenty-two}
 use Rattle.stepfile.proofs.TableLaws.{with-twenty-two, with-eighteen, without-entries}
@@ -89,69 +86,46 @@ six a b c d e g k n p q r s t u =
     let sixth : g ≡ 0 = omega arith in
     rw (p, q, third, fourth, fifth, sixth)
 
--- ---- the wish that is read of a file
+-- ---- the entries that the writer writes of a file's table
 module _ (f : List ℕ) where
   abbrev k : ℕ
   k = tableEntries f
 
-  no-wish : k ≡ 0 → wishIn f ≡ NoTable
-  no-wish e = ap (λ b. cond b NoTable (Given (tableIn f))) (eq-eqb k 0 e)
-
-  a-wish : ¬ (k ≡ 0) → wishIn f ≡ Given (tableIn f)
-  a-wish n = ap (λ b. cond b NoTable (Given (tableIn f))) (ne-eqb k 0 n)
-
-  -- it is the file's table
-  pub wished-in : Few k → wished (wishIn f) ≡ tableIn f
-  wished-in (inl e) = ap wished (no-wish e) ∙ sym (without-entries f e)
-  wished-in (inr (inl e)) = ap wished (a-wish (λ z. omega arith))
-  wished-in (inr (inr e)) = ap wished (a-wish (λ z. omega arith))
+  -- they are eighteen of a file without entries, and of one with twenty-two and four zeros
+  pub others-in-eighteen : OtherEntries f → length (entriesFor (tableIn f)) ≡ 18
+  others-in-eighteen (inl e) = ap (λ t. length (entriesFor t)) (without-entries f e)
+  others-in-eighteen (inr z) = ap length (in-eighteen (tableIn f) (z .1))
 
   module _ (h : 12 + 2 * k ≤ length f) where
     eighteen-in : k ≡ 18 → entriesFor (tableIn f) ≡ u16sAt f 12 18
     eighteen-in e = ap entriesFor (with-eighteen f (omega arith) e)
 
-    -- its entries are the file's, where these are not twenty-two with four zeros
-    pub entries-in : Few k → ¬ FourZeros f → entriesOf (wishIn f) ≡ u16sAt f 12 k
-    entries-in (inl e) z = ap entriesOf (no-wish e) ∙ ap (λ m. u16sAt f 12 m) (sym e)
-    entries-in (inr (inl e)) z =
-        ap entriesOf (a-wish (λ q. omega arith)) ∙ eighteen-in e ∙ ap (λ m. u16sAt f 12 m) (sym e)
+    -- else they are the file's
+    pub entries-in : Few k → ¬ OtherEntries f → entriesFor (tableIn f) ≡ u16sAt f 12 k
+    entries-in (inl e) z = absurd (z (inl e))
+    entries-in (inr (inl e)) z = eighteen-in e ∙ ap (λ m. u16sAt f 12 m) (sym e)
     entries-in (inr (inr e)) z =
-        ap entriesOf (a-wish (λ q. omega arith))
-        ∙ in-twenty-two (tableIn f) (λ n. z (e, n))
+        in-twenty-two (tableIn f) (λ n. z (inr (e, n)))
         ∙ ap entries (with-twenty-two f (omega arith) e)
         ∙ ap (λ m. u16sAt f 12 m) (sym e)
 
-    -- else they are the first eighteen of them
-    pub entries-in-four-zeros : FourZeros f → entriesOf (wishIn f) ≡ u16sAt f 12 18
-    entries-in-four-zeros z =
-        ap entriesOf (a-wish (λ q. omega (arith, z .0)))
-        ∙ in-eighteen (tableIn f) (z .1)
-        ∙ ap limits (with-twenty-two f (omega (arith, z .0)) (z .0))
-
     -- as many records as the file may have the writer takes with its table
-    most-fits : (n : ℕ) → Few k → n ≤ mostRecords k → n ≤ mostFor (Given (tableIn f))
+    most-fits : (n : ℕ) → Few k → n ≤ mostRecords k → n ≤ mostFor (tableIn f)
     most-fits n (inl e) m =
-        let same : mostFor (Given (tableIn f)) ≡ 16372 = ap (λ t. mostFor (Given t)) (without-entries f e) in
+        let same : mostFor (tableIn f) ≡ 16372 = ap mostFor (without-entries f e) in
         omega (arith, most-between k)
     most-fits n (inr (inl e)) m =
-        let same : mostFor (Given (tableIn f)) ≡ 16372 = ap (λ es. mostRecords (length es)) (eighteen-in e) in
+        let same : mostFor (tableIn f) ≡ 16372 = ap (λ es. mostRecords (length es)) (eighteen-in e) in
         omega (arith, most-between k)
     most-fits n (inr (inr e)) m =
         let least : mostRecords k ≡ 16370 = ap mostRecords e in
         omega (arith, most-between (length (entriesFor (tableIn f))))
 
 -- ---- a good file has no more records than the writer takes with its table
-pub no-more-than-written : (f : List ℕ) → refusalOf f .number ≡ 0 → recordCount f ≤ mostFor (Given (tableIn f))
+pub no-more-than-written : (f : List ℕ) → refusalOf f .number ≡ 0 → recordCount f ≤ mostFor (tableIn f)
 no-more-than-written f z =
     let g = good-file f z in
     most-fits f (omega (arith, g .whole)) (recordCount f) (g .few) (g .within)
-
-pub no-more-than-wished : (f : List ℕ) → refusalOf f .number ≡ 0 → recordCount f ≤ mostFor (wishIn f)
-no-more-than-wished f z =
-    let g = good-file f z in
-    case (eqb (tableEntries f) 0)
-    (λ e. rw e (g .most))
-    (λ e. rw e (no-more-than-written f z))
 
 -- ---- a file of its parts
 pub assembled :

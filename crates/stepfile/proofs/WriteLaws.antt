@@ -12,75 +12,75 @@ use borrow.Author.Tests.{eq-eqb, ne-eqb, le-leb, lt-leb, eqb-true, leb-true}
 use Rattle.checks.specs.Checks.{first}
 use Rattle.checks.proofs.Tests.{case}
 use Rattle.checks.proofs.Ranges.{from}
+use Rattle.limits.specs.declared.Table.{Table}
 use Rattle.limits.specs.Rules.{brokenRule}
 use Rattle.shift.specs.declared.Reading.the-variants.{WrongCode}
 use Rattle.shift.specs.declared.Step.{Step}
 use Rattle.shift.specs.Answers.{plain, ticking, reading, readings, refusal}
-use Rattle.stepfile.specs.declared.write.Wish.{Wish}
 use Rattle.stepfile.specs.declared.write.Written.{Written}
-use Rattle.stepfile.specs.Writing.{wished, fileOf, sizeOf, firstWrong, writable, refusedWith, fitting, afterRecords, afterLists, writtenOf, bufferAfter}
+use Rattle.stepfile.specs.Writing.{fileOf, sizeOf, firstWrong, writable, refusedWith, fitting, afterRecords, afterLists, writtenOf, bufferAfter}
 use Rattle.stepfile.proofs.StepLaws.{right}
 
-module _ (w : Wish) (cs ns out : List ℕ) where
+module _ (t : Table) (cs ns out : List ℕ) where
   -- the writer's answer and the buffer after it
   abbrev Leaves : Written → List ℕ → Type 0
-  Leaves r b = (r ≡ writtenOf w cs ns (length out)) × (b ≡ bufferAfter w cs ns out)
+  Leaves r b = (r ≡ writtenOf t cs ns (length out)) × (b ≡ bufferAfter t cs ns out)
 
-  kept : (r : Written) → ¬ (r .number ≡ 0) → r ≡ writtenOf w cs ns (length out) → Leaves r out
+  kept : (r : Written) → ¬ (r .number ≡ 0) → r ≡ writtenOf t cs ns (length out) → Leaves r out
   kept r n e =
-      let other = ne-eqb (writtenOf w cs ns (length out) .number) 0 (λ z. n (ap (λ (q : Written). q .number) e ∙ z)) in
-      (e, ap (λ b. cond b (fileOf w cs ns ++ drop (sizeOf w cs) out) out) (sym other))
+      let other = ne-eqb (writtenOf t cs ns (length out) .number) 0 (λ z. n (ap (λ (q : Written). q .number) e ∙ z)) in
+      (e, ap (λ b. cond b (fileOf t cs ns ++ drop (sizeOf t cs) out) out) (sym other))
 
   abbrev rest : Written
-  rest = afterRecords (firstWrong 0 cs ns) (fitting (sizeOf w cs) (length out))
+  rest = afterRecords (firstWrong 0 cs ns) (fitting (sizeOf t cs) (length out))
 
   pub at-lists :
-      (k : ℕ) → first (writable w cs ns) ≡ k → ¬ (k ≡ 0)
-      → Leaves (refusedWith k (cond (eqb k 4) (brokenRule (wished w)) 0) 0) out
+      (k : ℕ) → first (writable t cs ns) ≡ k → ¬ (k ≡ 0)
+      → Leaves (refusedWith k (cond (eqb k 4) (brokenRule t) 0) 0) out
   at-lists k e n =
-      let r = brokenRule (wished w) in
+      let r = brokenRule t in
       let own : refusedWith k (cond (eqb k 4) r 0) 0 ≡ afterLists k r rest =
       ap (λ b. cond b rest (refusedWith k (cond (eqb k 4) r 0) 0)) (sym (ne-eqb k 0 n))
       in
       kept (refusedWith k (cond (eqb k 4) r 0) 0) n (own ∙ ap (λ a. afterLists a r rest) (sym e))
 
   -- the lists and the table are as they should be
-  module _ (e : first (writable w cs ns) ≡ 0) where
-    on : rest ≡ writtenOf w cs ns (length out)
-    on = ap (λ a. afterLists a (brokenRule (wished w)) rest) (sym e)
+  module _ (e : first (writable t cs ns) ≡ 0) where
+    on : rest ≡ writtenOf t cs ns (length out)
+    on = ap (λ a. afterLists a (brokenRule t) rest) (sym e)
 
     pub at-record :
         ¬ (firstWrong 0 cs ns .number ≡ 0) → Leaves (refusedWith (firstWrong 0 cs ns .number) 0 (firstWrong 0 cs ns .index)) out
     at-record n =
         let x = firstWrong 0 cs ns in
         let there : refusedWith (x .number) 0 (x .index) ≡ rest =
-        ap (λ b. cond b (fitting (sizeOf w cs) (length out)) (refusedWith (x .number) 0 (x .index))) (sym (ne-eqb (x .number) 0 n))
+        ap (λ b. cond b (fitting (sizeOf t cs) (length out)) (refusedWith (x .number) 0 (x .index))) (sym (ne-eqb (x .number) 0 n))
         in
         kept (refusedWith (x .number) 0 (x .index)) n (there ∙ on)
 
     -- all records read
     module _ (z : firstWrong 0 cs ns .number ≡ 0) where
-      last : fitting (sizeOf w cs) (length out) ≡ writtenOf w cs ns (length out)
+      last : fitting (sizeOf t cs) (length out) ≡ writtenOf t cs ns (length out)
       last =
           let x = firstWrong 0 cs ns in
-          ap (λ b. cond b (fitting (sizeOf w cs) (length out)) (refusedWith (x .number) 0 (x .index))) (sym (eq-eqb (x .number) 0 z)) ∙ on
+          ap (λ b. cond b (fitting (sizeOf t cs) (length out)) (refusedWith (x .number) 0 (x .index))) (sym (eq-eqb (x .number) 0 z)) ∙ on
 
-      pub at-room : length out < sizeOf w cs → Leaves (refusedWith 15 0 0) out
+      pub at-room : length out < sizeOf t cs → Leaves (refusedWith 15 0 0) out
       at-room h =
-          let done : Written = record { number = 0; rule = 0; index = 0; length = sizeOf w cs } in
+          let done : Written = record { number = 0; rule = 0; index = 0; length = sizeOf t cs } in
           kept (refusedWith 15 0 0) (λ q. omega arith)
-          (ap (λ b. cond b done (refusedWith 15 0 0)) (sym (lt-leb (sizeOf w cs) (length out) h)) ∙ last)
+          (ap (λ b. cond b done (refusedWith 15 0 0)) (sym (lt-leb (sizeOf t cs) (length out) h)) ∙ last)
 
       pub written :
-          sizeOf w cs ≤ length out
-          → Leaves (record { number = 0; rule = 0; index = 0; length = sizeOf w cs }) (fileOf w cs ns ++ drop (sizeOf w cs) out)
+          sizeOf t cs ≤ length out
+          → Leaves (record { number = 0; rule = 0; index = 0; length = sizeOf t cs }) (fileOf t cs ns ++ drop (sizeOf t cs) out)
       written h =
-          let done : Written = record { number = 0; rule = 0; index = 0; length = sizeOf w cs } in
-          let same : done ≡ writtenOf w cs ns (length out) =
-          ap (λ b. cond b done (refusedWith 15 0 0)) (sym (le-leb (sizeOf w cs) (length out) h)) ∙ last
+          let done : Written = record { number = 0; rule = 0; index = 0; length = sizeOf t cs } in
+          let same : done ≡ writtenOf t cs ns (length out) =
+          ap (λ b. cond b done (refusedWith 15 0 0)) (sym (le-leb (sizeOf t cs) (length out) h)) ∙ last
           in
-          let zero-there = eq-eqb (writtenOf w cs ns (length out) .number) 0 (ap (λ (q : Written). q .number) (sym same)) in
-          (same, ap (λ b. cond b (fileOf w cs ns ++ drop (sizeOf w cs) out) out) (sym zero-there))
+          let zero-there = eq-eqb (writtenOf t cs ns (length out) .number) 0 (ap (λ (q : Written). q .number) (sym same)) in
+          (same, ap (λ b. cond b (fileOf t cs ns ++ drop (sizeOf t cs) out) out) (sym zero-there))
 
 -- ---- the amounts of records that read fit 16 bits
 plain-small : (x : Step) (n : ℕ) → refusal (plain x 0 n) ≡ 0 → n < 65536

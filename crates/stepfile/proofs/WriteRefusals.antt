@@ -21,7 +21,7 @@ use Rattle.stepfile.specs.declared.write.Wish.{Wish}
 use Rattle.stepfile.specs.declared.write.Wish.the-variants.{Given, NoTable}
 use Rattle.stepfile.specs.declared.write.Wrong.{Wrong}
 use Rattle.stepfile.specs.declared.write.Written.{Written}
-use Rattle.stepfile.specs.Writing.{wished, entriesOf, mostFor, firstWrong, sizeOf, writable, refusedWith, writtenOf, bufferAfter, fileOf}
+use Rattle.stepfile.specs.Writing.{wished, entriesFor, mostFor, firstWrong, sizeOf, writable, refusedWith, writtenOf, bufferAfter, fileOf}
 use Rattle.stepfile.specs.Refusals.{WrongAt, tableFor, TooMany, WrittenWith, writeRefusals, WriteAnswers}
 use Rattle.stepfile.proofs.EntryLaws.{past-most, within-most, written-with, with-no-others}
 use Rattle.stepfile.proofs.WriteLaws.{at-lists, at-record, at-room, written}
@@ -34,12 +34,12 @@ same-table (Given t) = refl
 same-table NoTable = refl
 
 -- the record maximum, by how the table would be written
-pub too-many : (w : Wish) (n : ℕ) → mostFor w < n → (k : ℕ) × WrittenWith w k × TooMany k n
-too-many w n h = (length (entriesOf w), written-with w, past-most (length (entriesOf w)) n h)
+pub too-many : (w : Wish) (n : ℕ) → mostFor (wished w) < n → (k : ℕ) × WrittenWith w k × TooMany k n
+too-many w n h = (length (entriesFor (wished w)), written-with w, past-most (length (entriesFor (wished w))) n h)
 
-pub not-too-many : (w : Wish) (n : ℕ) → n ≤ mostFor w → ¬ ((k : ℕ) × WrittenWith w k × TooMany k n)
+pub not-too-many : (w : Wish) (n : ℕ) → n ≤ mostFor (wished w) → ¬ ((k : ℕ) × WrittenWith w k × TooMany k n)
 not-too-many w n h q =
-    within-most (length (entriesOf w)) n h (subst (λ k. TooMany k n) (with-no-others w (q .0) (q .1)) (q .2))
+    within-most (length (entriesFor (wished w))) n h (subst (λ k. TooMany k n) (with-no-others w (q .0) (q .1)) (q .2))
 
 module _ (w : Wish) (cs ns out : List ℕ) where
   abbrev listRefusals : List Condition
@@ -55,10 +55,10 @@ module _ (w : Wish) (cs ns out : List ℕ) where
   abbrev roomRefusals : List Condition
   roomRefusals = (((k : ℕ) × WrittenWith w k × (length out < 12 + 2 * k + 4 * length cs)) gives 15) ∷ []
 
-  lists-in-order : FirstOf listRefusals (first (writable w cs ns))
+  lists-in-order : FirstOf listRefusals (first (writable (wished w) cs ns))
   lists-in-order =
       let rule = ap brokenRule (same-table w) in
-      first-of (writable w cs ns) listRefusals (
+      first-of (writable (wished w) cs ns) listRefusals (
         omega (arith, tests),
         (
           (
@@ -106,20 +106,20 @@ module _ (w : Wish) (cs ns out : List ℕ) where
   Answers r b = WriteAnswers w cs ns out (r .number) (r .rule) (r .index) (r .length) b
 
   carried :
-      (r : Written) (b : List ℕ) → (r ≡ writtenOf w cs ns (length out)) × (b ≡ bufferAfter w cs ns out) → Answers r b
-      → Answers (writtenOf w cs ns (length out)) (bufferAfter w cs ns out)
-  carried r b e a = subst (λ q. Answers q (bufferAfter w cs ns out)) (e .0) (subst (λ c. Answers r c) (e .1) a)
+      (r : Written) (b : List ℕ) → (r ≡ writtenOf (wished w) cs ns (length out)) × (b ≡ bufferAfter (wished w) cs ns out) → Answers r b
+      → Answers (writtenOf (wished w) cs ns (length out)) (bufferAfter (wished w) cs ns out)
+  carried r b e a = subst (λ q. Answers q (bufferAfter (wished w) cs ns out)) (e .0) (subst (λ c. Answers r c) (e .1) a)
 
   -- stopped by the lists or the table
   abbrev number : ℕ
-  number = first (writable w cs ns)
+  number = first (writable (wished w) cs ns)
 
   abbrev itsRule : ℕ
   itsRule = cond (eqb number 4) (brokenRule (wished w)) 0
 
   list-rule : number ≡ 4 → (itsRule ≡ brokenRule (tableFor w)) × ¬ (itsRule ≡ 0)
   list-rule e =
-      let before = (eqb (length cs) (length ns) ! 3) ∷ (leb (length cs) (mostFor w) ! 2) ∷ [] in
+      let before = (eqb (length cs) (length ns) ! 3) ∷ (leb (length cs) (mostFor (wished w)) ! 2) ∷ [] in
       let last = first-append 4 before ((eqb (brokenRule (wished w)) 0 ! 4) ∷ []) tt e .1 in
       let n : ¬ (brokenRule (wished w) ≡ 0) = λ z. let q = rw (eq-eqb (brokenRule (wished w)) 0 z) at last in omega arith in
       let own : itsRule ≡ brokenRule (wished w) = rw (eq-eqb number 4 e) in
@@ -127,7 +127,7 @@ module _ (w : Wish) (cs ns out : List ℕ) where
 
   by-lists : ¬ (number ≡ 0) → Answers (refusedWith number itsRule 0) out
   by-lists n =
-      let most = at-most 4 (writable w cs ns) tt in
+      let most = at-most 4 (writable (wished w) cs ns) tt in
       record {
         first = of-left listRefusals (orderRefusals ++ roomRefusals) number n lists-in-order;
         numbers =
@@ -147,7 +147,7 @@ module _ (w : Wish) (cs ns out : List ℕ) where
     passed = subst (FirstOf listRefusals) z lists-in-order
 
     as-long : length cs ≡ length ns
-    as-long = let h = first→holds 0 (writable w cs ns) tt z .0 in omega (arith, tests)
+    as-long = let h = first→holds 0 (writable (wished w) cs ns) tt z .0 in omega (arith, tests)
 
     by-record : ¬ (wrong .number ≡ 0) → Answers (refusedWith (wrong .number) 0 (wrong .index)) out
     by-record n =
@@ -173,10 +173,10 @@ module _ (w : Wish) (cs ns out : List ℕ) where
           of-right listRefusals (orderRefusals ++ roomRefusals) n tt passed
           (of-right orderRefusals roomRefusals n tt (subst (FirstOf orderRefusals) y (records-in-order as-long)) f)
 
-      no-room : length out < sizeOf w cs → Answers (refusedWith 15 0 0) out
+      no-room : length out < sizeOf (wished w) cs → Answers (refusedWith 15 0 0) out
       no-room l =
           record {
-            first = by-room 15 (inl ((length (entriesOf w), written-with w, l), refl));
+            first = by-room 15 (inl ((length (entriesFor (wished w)), written-with w, l), refl));
             numbers = inr (inr (inr (inr (inr (inr (inl refl))))));
             rule-for = ruled (tableFor w) 15 0 (λ e. absurd (omega arith)) (λ _. refl);
             index-with-5-and-6 = ⊎-elim (λ e. absurd (omega arith)) (λ e. absurd (omega arith));
@@ -185,7 +185,7 @@ module _ (w : Wish) (cs ns out : List ℕ) where
           }
 
       accepted :
-          (size : ℕ) (b : List ℕ) → sizeOf w cs ≤ length out
+          (size : ℕ) (b : List ℕ) → sizeOf (wished w) cs ≤ length out
           → Answers (record { number = 0; rule = 0; index = 0; length = size }) b
       accepted size b l =
           record {
@@ -197,26 +197,26 @@ module _ (w : Wish) (cs ns out : List ℕ) where
             unchanged = λ n. absurd (n refl);
           }
 
-  pub write-answers : Answers (writtenOf w cs ns (length out)) (bufferAfter w cs ns out)
+  pub write-answers : Answers (writtenOf (wished w) cs ns (length out)) (bufferAfter (wished w) cs ns out)
   write-answers =
-      let done : Written = record { number = 0; rule = 0; index = 0; length = sizeOf w cs } in
-      let file = fileOf w cs ns ++ drop (sizeOf w cs) out in
+      let done : Written = record { number = 0; rule = 0; index = 0; length = sizeOf (wished w) cs } in
+      let file = fileOf (wished w) cs ns ++ drop (sizeOf (wished w) cs) out in
       case (eqb number 0)
       (λ t.
       let z = eqb-true number 0 t in
       case (eqb (wrong .number) 0)
       (λ u.
       let y = eqb-true (wrong .number) 0 u in
-      case (leb (sizeOf w cs) (length out))
+      case (leb (sizeOf (wished w) cs) (length out))
       (λ l.
-      let room = leb-true (sizeOf w cs) (length out) l in
-      carried done file (written w cs ns out z y room) (accepted z y (sizeOf w cs) file room))
+      let room = leb-true (sizeOf (wished w) cs) (length out) l in
+      carried done file (written (wished w) cs ns out z y room) (accepted z y (sizeOf (wished w) cs) file room))
       (λ l.
-      let past = leb-false (sizeOf w cs) (length out) l in
-      carried (refusedWith 15 0 0) out (at-room w cs ns out z y past) (no-room z y past)))
+      let past = leb-false (sizeOf (wished w) cs) (length out) l in
+      carried (refusedWith 15 0 0) out (at-room (wished w) cs ns out z y past) (no-room z y past)))
       (λ u.
       let n = eqb-false (wrong .number) 0 u in
-      carried (refusedWith (wrong .number) 0 (wrong .index)) out (at-record w cs ns out z n) (by-record z n)))
+      carried (refusedWith (wrong .number) 0 (wrong .index)) out (at-record (wished w) cs ns out z n) (by-record z n)))
       (λ t.
       let n = eqb-false number 0 t in
-      carried (refusedWith number itsRule 0) out (at-lists w cs ns out number refl n) (by-lists n))
+      carried (refusedWith number itsRule 0) out (at-lists (wished w) cs ns out number refl n) (by-lists n))

@@ -8,7 +8,7 @@ use lib.Dec.{leb, eqb}
 use lib.ListN.{length, drop}
 use Rattle.checks.specs.Checks.{Check, _!_, first}
 use Rattle.limits.specs.declared.Table.{Table}
-use Rattle.limits.specs.Limits.{tableOf, default}
+use Rattle.limits.specs.Limits.{tableOf, oldDefault}
 use Rattle.limits.specs.Rules.{brokenRule}
 use Rattle.shift.specs.declared.Reading.{Reading}
 use Rattle.stepfile.specs.declared.Refusal.{Refusal}
@@ -47,11 +47,11 @@ abbrev pub headed : List ℕ → List Check
 headed f = headedBy (length f) (tableOffset f) (tableEntries f) (recordOffset f) (recordCount f)
 
 -- ---- the table: twenty-two entries, or eighteen and four delays of 0, where the header says so and there is room for them, else the
--- default
+-- old default
 unfoldable pub tableIn : List ℕ → Table
 tableIn f =
     cond (eqb (tableEntries f) 22 && leb 56 (length f)) (tableOf (u16sAt f 12 22))
-    (cond (eqb (tableEntries f) 18 && leb 48 (length f)) (tableOf (u16sAt f 12 18)) default)
+    (cond (eqb (tableEntries f) 18 && leb 48 (length f)) (tableOf (u16sAt f 12 18)) oldDefault)
 
 -- ---- refusals 1 to 4, the rule's number with 4 and 0 otherwise
 abbrev pub checks : List ℕ → List Check

@@ -1,6 +1,6 @@
--- Document 01, "Step files, parts and writing" and "Numbers for what is refused", and document 02's request 6, a second time: when a
--- file and a write are refused, as statements, what a good file holds, and what a refused write leaves. It shares no definition with
--- Bytes.antt, Files.antt, Records.antt and Writing.antt.
+-- Document 01, "Step files, parts and writing" and "Numbers for what is refused", and document 02's requests 6 and 7, a second time:
+-- when a file and a write are refused, as statements, what a good file holds, and what a refused write leaves. It shares no definition
+-- with Bytes.antt, Files.antt, Records.antt and Writing.antt.
 -- Assumes nothing.
 use mathlib.Core.Path.{_≡_}
 use mathlib.Core.Bool.{cond}
@@ -11,7 +11,7 @@ use lib.Dec.{eqb}
 use lib.ListN.{length, getD}
 use Rattle.checks.specs.Conditions.{Condition, _gives_, _else_, FirstOf, OneOf}
 use Rattle.limits.specs.declared.Table.{Table}
-use Rattle.limits.specs.Refusals.{byDefault, NoDelays, Admitted, broken}
+use Rattle.limits.specs.Refusals.{byOldDefault, byNewDefault, NoDelays, Admitted, broken}
 use Rattle.shift.specs.declared.Reading.{Reading}
 use Rattle.shift.specs.declared.Reading.the-variants.{WrongCode}
 use Rattle.shift.specs.Refusals.{refusals, Reads}
@@ -74,7 +74,7 @@ tableBehind f = cond (eqb (bits16 f 2) 22) (longTable f) (shortTable f)
 abbrev pub TooMany : ℕ → ℕ → Type 0
 TooMany entries records = (16372 < records) ⊎ ((entries ≡ 22) × (16370 < records))
 
--- 1, 2, 3, 4; a file without entries has the default table, which is admitted
+-- 1, 2, 3, 4; a file without entries has the old default, which is admitted
 abbrev pub fileRefusals : List ℕ → List Condition
 fileRefusals f =
     (length f < 12 gives 1)
@@ -99,7 +99,7 @@ place f index = 12 + 2 * bits16 f 2 + 4 * index
 -- a good file with this table and these records: as many as the header says, and each is what its code, its middle byte and its
 -- amount mean
 pub record FileHolds (f : List ℕ) (t : Table) (records : List Reading) : Type 0 where
-  pub without-entries : bits16 f 2 ≡ 0 → t ≡ byDefault
+  pub without-entries : bits16 f 2 ≡ 0 → t ≡ byOldDefault
   pub with-eighteen : bits16 f 2 ≡ 18 → t ≡ shortTable f
   pub with-twenty-two : bits16 f 2 ≡ 22 → t ≡ longTable f
   pub count : length records ≡ bits32 f 8
@@ -115,15 +115,15 @@ pub record WrongAt (codes amounts : List ℕ) (number index : ℕ) : Type 0 wher
   pub wrong : FirstOf (refusals (getD codes index 0) 0 (getD amounts index 0)) number
   pub before : (i : ℕ) → i < index → FirstOf (refusals (getD codes i 0) 0 (getD amounts i 0)) 0
 
--- the wish for no table means the default
+-- the wish for no table means the new default
 abbrev pub tableFor : Wish → Table
 tableFor (Given t) = t
-tableFor NoTable = byDefault
+tableFor NoTable = byNewDefault
 
--- it is written with so many entries: a table whose four delays are 0 with 18, any other with 22
+-- it is written with so many entries: a table whose four delays are 0 with 18, any other with 22, and the new default with 18
 abbrev pub WrittenWith : Wish → ℕ → Type 0
 WrittenWith (Given t) entries = (NoDelays t × (entries ≡ 18)) ⊎ (¬ NoDelays t × (entries ≡ 22))
-WrittenWith NoTable entries = entries ≡ 0
+WrittenWith NoTable entries = entries ≡ 18
 
 -- 3, 2, 4, first record with 5 or 6, 15
 abbrev pub writeRefusals : Wish → List ℕ → List ℕ → List ℕ → List Condition

@@ -1,17 +1,14 @@
--- What stands in a file, as the writer takes it: a wish, codes and amounts; and what codes and amounts mean.
+-- What stands in a file, as the writer takes it: codes and amounts; what these mean; and which files it writes with other entries.
 -- Assumes nothing.
 use mathlib.Core.Path.{_≡_}
-use mathlib.Core.Bool.{cond}
+use mathlib.Core.Logic.{_⊎_}
 use mathlib.Core.List.{List, [], _∷_}
 use Prim.Native.Nat.{ℕ, _+_, _*_, _<_}
-use lib.Dec.{eqb}
 use lib.ListN.{getD}
 use Rattle.limits.specs.Refusals.{NoDelays}
 use Rattle.shift.specs.declared.Reading.{Reading}
 use Rattle.shift.specs.declared.Reading.the-variants.{Means, WrongCode, WrongAmount}
 use Rattle.shift.specs.Answers.{reading}
-use Rattle.stepfile.specs.declared.write.Wish.{Wish}
-use Rattle.stepfile.specs.declared.write.Wish.the-variants.{Given, NoTable}
 use Rattle.stepfile.specs.Records.{everyFour}
 use Rattle.stepfile.specs.Files.{tableEntries, tableIn, recordBytes}
 
@@ -39,14 +36,11 @@ codesOf = everyFour (λ code middle low high. code)
 abbrev pub amountsOf : List ℕ → List ℕ
 amountsOf = everyFour (λ code middle low high. low + 256 * high)
 
--- twenty-two entries of which the four delays are 0; the writer writes such a table in eighteen
-abbrev pub FourZeros : List ℕ → Type 0
-FourZeros f = (tableEntries f ≡ 22) × NoDelays (tableIn f)
+-- no entries, or twenty-two of which the four delays are 0: the writer writes the table of such a file in eighteen
+abbrev pub OtherEntries : List ℕ → Type 0
+OtherEntries f = (tableEntries f ≡ 0) ⊎ ((tableEntries f ≡ 22) × NoDelays (tableIn f))
 
 -- a file taken apart
-abbrev pub wishIn : List ℕ → Wish
-wishIn f = cond (eqb (tableEntries f) 0) NoTable (Given (tableIn f))
-
 abbrev pub codesIn : List ℕ → List ℕ
 codesIn f = codesOf (recordBytes f)
 

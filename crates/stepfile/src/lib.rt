@@ -89,7 +89,7 @@ fn most_records(entries: usize) -> usize
 }
 
 // The table of any file: the twenty-two entries behind its header, or eighteen and four delays of 0, where the header says so and they
-// are there, else the default.
+// are there, else the old default.
 pub fn table(file: &[u8]) -> Table
     ensures { λ r. ⌜ r ≡ tableIn (now (file .entry)) ⌝ }
 {
@@ -101,7 +101,7 @@ pub fn table(file: &[u8]) -> Table
     if (entries == 18) & (48 <= len) {
         return Table::of(entries_at(file, 18));
     }
-    Table::default()
+    Table::old_default()
 }
 
 // The first so many entries behind the header, and zeros for the others.

@@ -5,8 +5,7 @@ ghost use lib.ListN.{length, getD, take};
 ghost use lib.Seq.{sets};
 ghost use Rattle.limits.specs.Limits.{entries};
 ghost use Rattle.numbers.specs.Bytes.{bytesOf};
-ghost use Rattle.stepfile.specs.declared.write.Wish.the-variants.{Given};
-ghost use Rattle.stepfile.specs.Writing.{wished, entriesFor, entriesOf, mostFor, headerOf, recordsOf, fileOf, sizeOf, firstWrong, refusedWith, writtenOf, bufferAfter};
+ghost use Rattle.stepfile.specs.Writing.{wished, entriesFor, mostFor, headerOf, recordsOf, fileOf, sizeOf, firstWrong, refusedWith, writtenOf, bufferAfter};
 use crate::most_records;
 use limits::Table;
 use numbers::put;
@@ -33,23 +32,13 @@ pub struct Wrong {
 }
 
 impl Wish {
-    // The table that the file is judged under.
+    // The table that is written: the one given, or the new default.
     fn table(self) -> Table
         ensures { λ r. ⌜ r ≡ wished self ⌝ }
     {
         match self {
             Wish::Given(table) => table,
-            Wish::NoTable => Table::default(),
-        }
-    }
-
-    // How many entries are written.
-    fn entries(self) -> usize
-        ensures { λ r. ⌜ r ≡ length (entriesOf self) ⌝ }
-    {
-        match self {
-            Wish::Given(table) => entries_for(table),
-            Wish::NoTable => 0,
+            Wish::NoTable => Table::new_default(),
         }
     }
 }
@@ -66,25 +55,26 @@ fn entries_for(table: Table) -> usize
 
 // The record maximum of a file with this table, admitted or not, by how it would be written.
 pub fn most_for(table: Table) -> usize
-    ensures { λ r. ⌜ r ≡ mostFor (Given table) ⌝ }
+    ensures { λ r. ⌜ r ≡ mostFor table ⌝ }
 {
     most_records(entries_for(table))
 }
 
 // Writes the file at the start of `out`, or changes no byte: refusals 3, 2, 4, 5 or 6 at the first record with one, 15.
 pub fn write(wish: Wish, codes: &[u8], amounts: &[u32], out: &mut [u8]) -> Written
-    ensures { λ r. ⌜ r ≡ writtenOf wish (now (codes .entry)) (now (amounts .entry)) (length (now (out .entry))) ⌝ }
-    ensures { λ _. ⌜ now (out .exit) ≡ bufferAfter wish (now (codes .entry)) (now (amounts .entry)) (now (out .entry)) ⌝ }
+    ensures { λ r. ⌜ r ≡ writtenOf (wished wish) (now (codes .entry)) (now (amounts .entry)) (length (now (out .entry))) ⌝ }
+    ensures { λ _. ⌜ now (out .exit) ≡ bufferAfter (wished wish) (now (codes .entry)) (now (amounts .entry)) (now (out .entry)) ⌝ }
 {
     let count = codes.len();
     if count != amounts.len() {
         return refuse(3, 0, 0);
     }
-    let entries = wish.entries();
+    let table = wish.table();
+    let entries = entries_for(table);
     if most_records(entries) < count {
         return refuse(2, 0, 0);
     }
-    let rule = wish.table().broken_rule();
+    let rule = table.broken_rule();
     if rule != 0 {
         return refuse(4, rule, 0);
     }
@@ -98,7 +88,7 @@ pub fn write(wish: Wish, codes: &[u8], amounts: &[u32], out: &mut [u8]) -> Writt
     if out.len() < size {
         return refuse(15, 0, 0);
     }
-    put_file(out, wish, codes, amounts);
+    put_file(out, table, codes, amounts);
     Written {
         number: 0,
         rule: 0,
@@ -143,15 +133,15 @@ fn first_wrong(codes: &[u8], amounts: &[u32]) -> Wrong
 }
 
 // The whole file at the start of a buffer that has room for it; all other bytes stay.
-fn put_file(out: &mut [u8], wish: Wish, codes: &[u8], amounts: &[u32])
+fn put_file(out: &mut [u8], table: Table, codes: &[u8], amounts: &[u32])
     requires { ⌜ (length (now codes) ≡ length (now amounts)) × (length (now codes) ≤ 16372) ⌝ }
-    requires { ⌜ sizeOf wish (now codes) ≤ length (now out) ⌝ }
+    requires { ⌜ sizeOf table (now codes) ≤ length (now out) ⌝ }
     requires { ⌜ ((i : ℕ) → getD (now amounts) i 0 < 65536) ⌝ }
-    ensures { λ _. ⌜ now (out .exit) ≡ sets (now (out .entry)) 0 (fileOf wish (now (codes .entry)) (now (amounts .entry))) ⌝ }
+    ensures { λ _. ⌜ now (out .exit) ≡ sets (now (out .entry)) 0 (fileOf table (now (codes .entry)) (now (amounts .entry))) ⌝ }
 {
-    let entries = wish.entries();
+    let entries = entries_for(table);
     put_header(out, entries as u16, codes.len() as u16);
-    put_table(out, wish.table(), entries);
+    put_table(out, table, entries);
     put_records(out, 12 + 2 * entries, codes, amounts);
 }
 

@@ -1,6 +1,6 @@
 -- Document 01, "Numbers for what is refused" and "What the contracts have to determine": the files that hold K1, K3, K4, K5 and K6 byte
--- by byte, their verdicts and lines, and the five versions of a judge that are ruled out; and document 02's case of a clutch that
--- would not close.
+-- by byte, their verdicts and lines, and the five versions of a judge that are ruled out; document 02's case of a clutch that would not
+-- close; and a list that is refused in a file without a table and accepted as the writer leaves it for the wish for none.
 -- Assumes nothing.
 use mathlib.Core.Path.{_≡_, refl, sym, ap, subst, _∙_}
 use mathlib.Core.List.{List, [], _∷_, _++_, map}
@@ -8,6 +8,7 @@ use Prim.Native.Nat.{ℕ}
 use native.Mathlib.Omega.{arith}
 use lib.ListN.{drop}
 use denote.Ref.{now}
+use Rattle.limits.specs.Limits.{newDefault}
 use Rattle.line.specs.Ascii.{ascii}
 use Rattle.line.specs.Decimals.{decimalOf}
 use Rattle.line.specs.Lines.{lineOf}
@@ -15,6 +16,7 @@ use Rattle.shift.specs.declared.State.{State}
 use Rattle.shift.specs.States.{start}
 use Rattle.shift.specs.Runs.{Outcome}
 use Rattle.stepfile.specs.Files.{tableIn, refusalOf, readingsOf}
+use Rattle.stepfile.specs.Writing.{fileOf}
 use Rattle.promises.specs.Verdicts.{Exact}
 use Rattle.promises.proofs.Promises.{no-other-outcome}
 use Rattle.verdict.specs.declared.Verdict.{Verdict}
@@ -65,6 +67,30 @@ would-not-close =
 abbrev pub then-reset : List ℕ
 then-reset = headed 17 (drop 12 would-not-close ++ (12 ∷ 0 ∷ 9 ∷ 0 ∷ 13 ∷ 0 ∷ 0 ∷ 0 ∷ 3 ∷ 0 ∷ 0 ∷ 0 ∷ []))
 
+-- 1 t10 4 t100 5 t10, 8 4 t300 5 t10 8 11: 10 ms for each message, in codes and amounts and in a file without a table
+abbrev pub codes : List ℕ
+codes = 1 ∷ 12 ∷ 4 ∷ 12 ∷ 5 ∷ 12 ∷ 8 ∷ 4 ∷ 12 ∷ 5 ∷ 12 ∷ 8 ∷ 11 ∷ []
+
+abbrev pub amounts : List ℕ
+amounts = 0 ∷ 10 ∷ 0 ∷ 100 ∷ 0 ∷ 10 ∷ 0 ∷ 0 ∷ 300 ∷ 0 ∷ 10 ∷ 0 ∷ 0 ∷ []
+
+abbrev records : List ℕ
+records =
+    1 ∷ 0 ∷ 0 ∷ 0 ∷ 12 ∷ 0 ∷ 10 ∷ 0 ∷ 4 ∷ 0 ∷ 0 ∷ 0 ∷ 12 ∷ 0 ∷ 100 ∷ 0 ∷ 5 ∷ 0 ∷ 0 ∷ 0 ∷ 12 ∷ 0 ∷ 10 ∷ 0 ∷ 8 ∷ 0 ∷ 0 ∷ 0
+    ∷ 4 ∷ 0 ∷ 0 ∷ 0 ∷ 12 ∷ 0 ∷ 44 ∷ 1 ∷ 5 ∷ 0 ∷ 0 ∷ 0 ∷ 12 ∷ 0 ∷ 10 ∷ 0 ∷ 8 ∷ 0 ∷ 0 ∷ 0 ∷ 11 ∷ 0 ∷ 0 ∷ 0 ∷ []
+
+abbrev pub without-a-table : List ℕ
+without-a-table = headed 13 records
+
+-- the file that the writer leaves for the wish for none: table offset 12, eighteen entries, record offset 48, 13 records, the new default
+pub written-for-none :
+    fileOf newDefault codes amounts
+    ≡ 12 ∷ 0 ∷ 18 ∷ 0 ∷ 48 ∷ 0 ∷ 0 ∷ 0 ∷ 13 ∷ 0 ∷ 0 ∷ 0
+    ∷ 10 ∷ 0 ∷ 100 ∷ 0 ∷ 200 ∷ 0 ∷ 150 ∷ 0 ∷ 150 ∷ 0 ∷ 44 ∷ 1 ∷ 200 ∷ 0 ∷ 150 ∷ 0 ∷ 250 ∷ 0
+    ∷ 155 ∷ 0 ∷ 255 ∷ 0 ∷ 151 ∷ 0 ∷ 251 ∷ 0 ∷ 200 ∷ 0 ∷ 94 ∷ 1 ∷ 250 ∷ 0 ∷ 200 ∷ 0 ∷ 220 ∷ 5
+    ∷ records
+written-for-none = refl
+
 -- ---- their lines
 pub k1-prints : lineFor k1 ≡ ascii "accepted 12 0 410 0 1 0\n"
 unfolding lineOf decimalOf tableIn
@@ -82,6 +108,15 @@ would-not-close-prints = refl
 pub then-reset-prints : lineFor then-reset ≡ ascii "accepted 17 0 160 17 1 0\n"
 unfolding lineOf decimalOf tableIn
 then-reset-prints = refl
+
+-- the same list, in a file without a table and as it is written for the wish for none
+pub without-a-table-prints : lineFor without-a-table ≡ ascii "refused 1 12 0 1 0 5\n"
+unfolding lineOf decimalOf tableIn
+without-a-table-prints = refl
+
+pub for-none-prints : lineFor (fileOf newDefault codes amounts) ≡ ascii "accepted 13 0 430 0 1 0\n"
+unfolding lineOf decimalOf tableIn
+for-none-prints = refl
 
 -- ---- their verdicts: the number, the index, the excess, and the clock and the phase of the state
 abbrev pub told : Verdict → List ℕ

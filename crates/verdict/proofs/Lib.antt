@@ -8,3 +8,4 @@ pub mod Determined
 pub mod KnownFiles
 pub mod Before
 pub mod OldFleet
+pub mod Defaults

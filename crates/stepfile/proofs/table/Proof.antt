@@ -1,4 +1,4 @@
--- `table` meets its contract: the twenty-two or eighteen entries that stand there, else the default.
+-- `table` meets its contract: the twenty-two or eighteen entries that stand there, else the old default.
 -- Assumes nothing.
 use native.Mathlib.Omega.{arith}
 use Rattle.stepfile.specs.Files.{tableIn}
@@ -29,7 +29,7 @@ returns-2 c =
 returns-3 : tie.Need-returns-3
 unfolding tableIn
 returns-3 c =
-    rw (← c .before .before .before .u16-at .ensures, c .before .before .if1 .left, c .before .if2 .left) (c .default .ensures)
+    rw (← c .before .before .before .u16-at .ensures, c .before .before .if1 .left, c .before .if2 .left) (c .old-default .ensures)
 
 pub table-spec : {M : Type 1} → statement M
 table-spec =

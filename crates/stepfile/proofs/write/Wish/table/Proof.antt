@@ -1,4 +1,4 @@
--- `Wish::table` meets its contract: the table that was given, or the default.
+-- `Wish::table` meets its contract: the table that was given, or the new default.
 -- Assumes nothing.
 use borrow.Author.Needs.{needs}
 use Rattle.stepfile.proofs.write.Wish.table.Statement.{statement}
@@ -12,4 +12,4 @@ table-spec =
     (λ c. search needs)
     (λ _ _. tt)
     (λ c. rw (c .before .self .given .1))
-    (λ c. rw (c .before .enum-told .given .1) (c .default .ensures)))
+    (λ c. rw (c .before .enum-told .given .1) (c .new-default .ensures)))
