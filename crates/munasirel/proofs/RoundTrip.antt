@@ -17,7 +17,7 @@ use Rattle.limits.specs.Limits.{newDefault}
 use Rattle.limits.specs.Refusals.{byOldDefault}
 use Rattle.shift.specs.declared.Reading.{Reading}
 use Rattle.shift.specs.States.{start}
-use Rattle.shift.specs.Runs.{run}
+use Rattle.shift.specs.Runs.{Outcome, run}
 use Rattle.promises.proofs.Defaults.{accepted-by-the-new-default}
 use Rattle.stepfile.specs.declared.write.Wish.the-variants.{Given, NoTable}
 use Rattle.stepfile.specs.declared.write.Written.{Written}
@@ -154,6 +154,16 @@ module _
       munasirel-verdict-of-what-was-written z κs′ lent v left′ said e
       ∙ ap (λ k. ofRun (run (cond (eqb k 0) newDefault table) start steps)) none
       ∙ ap ofRun (accepted-by-the-new-default steps a)
+
+  pub munasirel-judge-accepts-for-none :
+      number ≡ 0 → with-table ≡ 0 → run byOldDefault start steps .number ≡ 0
+      → (κs′ : Lfts 1) (lent : Args judge-call.signature κs′) (r : ℕ) (left′ : AtExit judge-call.ended κs′)
+      → judge-reads.Post κs′ lent r left′ → now (lent .0) ≡ bytes → r ≡ 0
+  munasirel-judge-accepts-for-none z none a κs′ lent r left′ said e =
+      munasirel-judge-of-what-was-written z κs′ lent r left′ said e
+      ∙ ap (λ k. run (cond (eqb k 0) newDefault table) start steps .number) none
+      ∙ ap (λ (o : Outcome). o .number) (accepted-by-the-new-default steps a)
+      ∙ a
 
   pub munasirel-table-of-what-was-written :
       number ≡ 0
