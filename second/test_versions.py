@@ -141,6 +141,13 @@ class Measuring(unittest.TestCase):
         self.assertEqual(passed, 1)
         self.assertNotIn("not told apart", out)
 
+    def test_quick(self):
+        answered = [(case, worked(case).line()) for case in self.made]
+        (stored, fresh), fault = self.sharpness.tried(RULE_8, answered, answered)
+        self.assertEqual((stored, fault), (fresh, ""))
+        self.assertEqual(self.sharpness.tried(RULE_8, answered, answered, quick=True), ([stored, None], ""))
+        self.assertEqual(self.sharpness.tried(RULE_8, [], answered, quick=True), ([None, fresh], ""))
+
     def test_not_told_apart(self):
         for wrong, why in (
             (HARMLESS, "no line differs"),
