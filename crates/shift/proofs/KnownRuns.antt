@@ -193,19 +193,21 @@ pub record KnownDelays : Type 0 where
 pub known-delays : KnownDelays
 known-delays = record { runs = refl; broken = refl; kept = refl }
 
--- ---- the two defaults: K1 with 10 ms for each message, on a bus that the old default has 5 ms for. The new one accepts it: clock 430, at
--- rest, in gear; the old one refuses the first tick with 12, 5 over. At 11 ms both do
+-- ---- the two defaults: K1 with 5, 10 and 11 ms for each of three messages. Where it is accepted the shift is done, at rest and in gear;
+-- else the first tick is refused with 12, by what it is past 5 under the old default and past 10 under the new one
 abbrev messages : ℕ → List Reading
 messages n =
     step 1 ∷ t n ∷ step 4 ∷ t 100 ∷ step 5 ∷ t n ∷ step 8 ∷ step 4 ∷ t 300 ∷ step 5 ∷ t n ∷ step 8 ∷ step 11 ∷ []
 
+abbrev shifted : ℕ → Outcome
+shifted clock = record { count = 13; number = 0; excess = 0; state = state clock inGear 0 clock none clock 0 0 }
+
+abbrev tooLate : ℕ → Outcome
+tooLate excess = record { count = 1; number = 12; excess = excess; state = state 0 neutral 1 0 sent 0 0 0 }
+
 pub record KnownDefaults : Type 0 where
-  pub new-accepts : run newDefault start (messages 10) ≡ known (messages 10) 13 0 (state 430 inGear 0 430 none 430 0 0) .ends
-  pub old-refuses : run oldDefault start (messages 10) ≡ over (messages 10) 1 12 5 (state 0 neutral 1 0 sent 0 0 0) .ends
-  pub both-accept :
-      map (λ u. run u start (messages 5)) (oldDefault ∷ newDefault ∷ [])
-      ≡ map (λ s. known (messages 5) 13 0 s .ends) (state 415 inGear 0 415 none 415 0 0 ∷ state 415 inGear 0 415 none 415 0 0 ∷ [])
-  pub new-refuses : run newDefault start (messages 11) ≡ over (messages 11) 1 12 1 (state 0 neutral 1 0 sent 0 0 0) .ends
+  pub old : map (λ n. run oldDefault start (messages n)) (5 ∷ 10 ∷ 11 ∷ []) ≡ shifted 415 ∷ tooLate 5 ∷ tooLate 6 ∷ []
+  pub new : map (λ n. run newDefault start (messages n)) (5 ∷ 10 ∷ 11 ∷ []) ≡ shifted 415 ∷ shifted 430 ∷ tooLate 1 ∷ []
 
 pub known-defaults : KnownDefaults
-known-defaults = record { new-accepts = refl; old-refuses = refl; both-accept = refl; new-refuses = refl }
+known-defaults = record { old = refl; new = refl }

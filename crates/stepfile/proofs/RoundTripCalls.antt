@@ -71,7 +71,7 @@ pub record StandsInEighteen (f : List ℕ) (r : Written) (before after : List �
   pub rest : drop (longInEighteen f) after ≡ drop (longInEighteen f) before
 
 -- ---- an answer of 0 tells that every check holds
-pub every-check :
+every-check :
     (k rule : ℕ) (x : Wrong) (n room : ℕ) → afterLists k rule (afterRecords x (fitting n room)) .number ≡ 0
     → (k ≡ 0) × (x .number ≡ 0) × (n ≤ room)
 every-check k rule x n room e =
@@ -108,13 +108,17 @@ module _
         rest = ap (drop (length file)) buffer ∙ drop-append-seam file rest ∙ ap (λ n. drop n before) (sym (long e));
       }
 
+  pub passed :
+      r .number ≡ 0
+      → (first (writable t codes amounts) ≡ 0) × (firstWrong 0 codes amounts .number ≡ 0) × (sizeOf t codes ≤ length before)
+  passed z =
+      every-check (first (writable t codes amounts)) (brokenRule t) (firstWrong 0 codes amounts) (sizeOf t codes) (length before)
+      (ap (λ (q : Written). q .number) (sym a) ∙ z)
+
   pub reads-back : r .number ≡ 0 → Stands t (readingsBy codes amounts) (r .length) before after
   reads-back z =
       let steps = readingsBy codes amounts in
-      let h =
-      every-check (first (writable t codes amounts)) (brokenRule t) (firstWrong 0 codes amounts) (sizeOf t codes)
-      (length before) (ap (λ (q : Written). q .number) (sym a) ∙ z)
-      in
+      let h = passed z in
       let s = stands (h .0) (h .1) (h .2) in
       subst (λ n. Stands t steps n before after) (sym (ap (λ (q : Written). q .length) (s .answer))) record {
         file =

@@ -8,19 +8,18 @@ use lib.ListN.{length, take}
 use contract.Lifetimes.{Lfts}
 use denote.Triple.Entry.{Args}
 use denote.Triple.Clauses.{AtExit}
-use Rattle.checks.specs.Checks.{first}
 use Rattle.limits.specs.Limits.{newDefault}
 use Rattle.limits.specs.Refusals.{byNewDefault}
 use Rattle.limits.specs.Rules.{brokenRule}
 use Rattle.stepfile.specs.declared.write.Wish.the-variants.{NoTable}
 use Rattle.stepfile.specs.declared.write.Written.{Written}
 use Rattle.stepfile.specs.Files.{tableEntries}
-use Rattle.stepfile.specs.Writing.{wished, sizeOf, mostFor, firstWrong, writable, refusedWith, writtenOf, bufferAfter}
+use Rattle.stepfile.specs.Writing.{wished, mostFor, firstWrong, refusedWith, writtenOf, bufferAfter}
 use Rattle.stepfile.specs.RoundTrip.{readingsBy}
 use Rattle.stepfile.proofs.WriteLaws.{at-room}
 use Rattle.stepfile.proofs.RoundTrip.{accepting, written-in-so-many}
 use Rattle.stepfile.proofs.RoundTripCalls as calls
-use Rattle.stepfile.proofs.RoundTripCalls.{Stands, every-check, long, stands, reads-back}
+use Rattle.stepfile.proofs.RoundTripCalls.{Stands, long, stands, passed, reads-back}
 use Rattle.stepfile.proofs.write.write as write-call
 use Rattle.stepfile.proofs.write.write.Reads as write-reads
 
@@ -37,10 +36,7 @@ module _
   pub none-reads-back : r .number ≡ 0 → StandsForNone codes amounts r before after
   none-reads-back z =
       let t = newDefault in
-      let h =
-      every-check (first (writable t codes amounts)) (brokenRule t) (firstWrong 0 codes amounts) (sizeOf t codes)
-      (length before) (ap (λ (q : Written). q .number) (sym a) ∙ z)
-      in
+      let h = passed t codes amounts before after r a b z in
       let s = stands t codes amounts before after r a b (h .0) (h .1) (h .2) in
       let n = ap (λ (q : Written). q .length) (s .answer) in
       record {

@@ -65,11 +65,18 @@ pub fn write(wish: Wish, codes: &[u8], amounts: &[u32], out: &mut [u8]) -> Writt
     ensures { λ r. ⌜ r ≡ writtenOf (wished wish) (now (codes .entry)) (now (amounts .entry)) (length (now (out .entry))) ⌝ }
     ensures { λ _. ⌜ now (out .exit) ≡ bufferAfter (wished wish) (now (codes .entry)) (now (amounts .entry)) (now (out .entry)) ⌝ }
 {
+    write_with(wish.table(), codes, amounts, out)
+}
+
+// The same, with the table that is written.
+fn write_with(table: Table, codes: &[u8], amounts: &[u32], out: &mut [u8]) -> Written
+    ensures { λ r. ⌜ r ≡ writtenOf table (now (codes .entry)) (now (amounts .entry)) (length (now (out .entry))) ⌝ }
+    ensures { λ _. ⌜ now (out .exit) ≡ bufferAfter table (now (codes .entry)) (now (amounts .entry)) (now (out .entry)) ⌝ }
+{
     let count = codes.len();
     if count != amounts.len() {
         return refuse(3, 0, 0);
     }
-    let table = wish.table();
     let entries = entries_for(table);
     if most_records(entries) < count {
         return refuse(2, 0, 0);

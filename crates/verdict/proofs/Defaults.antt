@@ -1,22 +1,22 @@
 -- Request 7, of files: one without a table is judged under the old default for ever; a list that the old default accepts, written under
--- the wish for none, is accepted with the same end when the file is read back; and so is an accepted file without a table that is taken
--- apart and written anew.
+-- the wish for none, is accepted with the same end when the file is read back; so is an accepted file without a table that is taken apart
+-- and written anew; and a list that is refused in a file without a table is accepted as it is written for the wish for none.
 -- Assumes nothing.
-use mathlib.Core.Path.{_≡_, sym, ap, _∙_}
-use mathlib.Core.List.{List}
+use mathlib.Core.Path.{_≡_, refl, sym, ap, _∙_}
+use mathlib.Core.List.{List, [], _∷_}
 use Prim.Native.Nat.{ℕ}
 use denote.Ref.{now}
 use contract.Lifetimes.{Lfts}
 use denote.Triple.Entry.{Args}
 use denote.Triple.Clauses.{AtExit}
-use Rattle.limits.specs.Refusals.{byOldDefault}
+use Rattle.limits.specs.Refusals.{byOldDefault, byNewDefault}
 use Rattle.promises.proofs.Defaults.{accepted-by-the-new-default}
 use Rattle.shift.specs.declared.Reading.{Reading}
 use Rattle.shift.specs.States.{start}
 use Rattle.shift.specs.Runs.{run}
 use Rattle.stepfile.specs.declared.write.Wish.the-variants.{NoTable}
 use Rattle.stepfile.specs.declared.write.Written.{Written}
-use Rattle.stepfile.specs.Files.{tableEntries, refusalOf, readingsOf}
+use Rattle.stepfile.specs.Files.{tableEntries, tableIn, refusalOf, readingsOf}
 use Rattle.stepfile.specs.Writing.{wished}
 use Rattle.stepfile.specs.RoundTrip.{readingsBy, codesIn}
 use Rattle.stepfile.proofs.TableLaws.{without-entries}
@@ -27,7 +27,8 @@ use Rattle.stepfile.proofs.write.write.Reads as write-reads
 use Rattle.verdict.specs.declared.Verdict.{Verdict}
 use Rattle.verdict.specs.Verdicts.{ofRun, verdictOf}
 use Rattle.verdict.proofs.Judging.{read-verdict}
-use Rattle.verdict.proofs.KnownFiles.{Answered, answered}
+use Rattle.verdict.proofs.KnownFiles as known
+use Rattle.verdict.proofs.KnownFiles.{told, Answered, answered}
 use Rattle.verdict.proofs.WrittenFiles.{bytes, written-is-judged-as-given}
 
 -- under the old default
@@ -42,6 +43,11 @@ pub files-without-a-table-are-judged-under-the-old-default :
     → Answered f (λ v. v ≡ ofRun (run byOldDefault start (readingsOf f)))
 files-without-a-table-are-judged-under-the-old-default f z k =
     answered f (λ v. v ≡ ofRun (run byOldDefault start (readingsOf f))) (under-the-old-default f z k)
+
+-- the list with 10 ms for each message, in a file without a table: its second record is refused with 12, 5 over
+pub ten-ms-without-a-table : Answered known.without-a-table (λ v. told v ≡ 12 ∷ 1 ∷ 5 ∷ 0 ∷ 1 ∷ [])
+unfolding tableIn
+ten-ms-without-a-table = answered known.without-a-table (λ v. told v ≡ 12 ∷ 1 ∷ 5 ∷ 0 ∷ 1 ∷ []) refl
 
 -- ---- of a call of `write` that answers 0 to the wish for none, and of any call of `judge` on the bytes that it wrote
 module _
@@ -59,11 +65,22 @@ module _
   abbrev pub steps : List Reading
   steps = readingsBy codes amounts
 
+  under-the-new-default : verdictOf file ≡ ofRun (run byNewDefault start steps)
+  under-the-new-default =
+      written-is-judged-as-given κs given r left call z ∙ ap (λ w. ofRun (run (wished w) start steps)) none
+
   read-back : run byOldDefault start steps .number ≡ 0 → verdictOf file ≡ ofRun (run byOldDefault start steps)
-  read-back a =
-      written-is-judged-as-given κs given r left call z
-      ∙ ap (λ w. ofRun (run (wished w) start steps)) none
-      ∙ ap ofRun (accepted-by-the-new-default steps a)
+  read-back a = under-the-new-default ∙ ap ofRun (accepted-by-the-new-default steps a)
+
+  -- the list with 10 ms for each message: it is accepted, 13 records, clock 430 and at rest
+  pub ten-ms-for-none :
+      codes ≡ known.codes → amounts ≡ known.amounts → Answered file (λ v. told v ≡ 0 ∷ 13 ∷ 0 ∷ 430 ∷ 0 ∷ [])
+  ten-ms-for-none c a =
+      answered file (λ v. told v ≡ 0 ∷ 13 ∷ 0 ∷ 430 ∷ 0 ∷ [])
+      (ap told
+      (under-the-new-default
+      ∙ ap (λ cs. ofRun (run byNewDefault start (readingsBy cs amounts))) c
+      ∙ ap (λ ns. ofRun (run byNewDefault start (readingsBy known.codes ns))) a))
 
   -- a list that the old default accepts
   pub accepted-for-none :
