@@ -209,6 +209,14 @@ munasirel_judged munasirel_verdict(const uint8_t *file, size_t file_length);
  * Returns 0 where the table is admitted, or the number of the first rule that it breaks, 1 to 16. */
 uint8_t munasirel_admit(munasirel_limits table);
 
+/* Compares a new limit table with the old one, entry by entry. Entries 0 to 10 and 13 to 16 are tighter where they are smaller, the
+ * waiting times, which are entries 11, 12 and 18 to 21, where they are larger; change_dl, entry 17, never is.
+ *   old_table, new_table   any two tables
+ * Returns the number of the first entry that is tighter in the new table, 0 to 21, or 22 where none is. With 22 every list of records
+ * that is accepted under the old table is accepted under the new one, with the same end, which is proved. For that both have to be
+ * admitted, which is not tested here: munasirel_admit says it. */
+uint8_t munasirel_tighter(munasirel_limits old_table, munasirel_limits new_table);
+
 /* The old default, under which files without a table are judged for ever.
  * Returns 5, 100, 200, 150, 150, 300, 200, 150, 250, 155, 255, 151, 251, 200, 350, 250, 200 and 1500, and four delays of 0. */
 munasirel_limits munasirel_old_default(void);

@@ -17,7 +17,7 @@ MISMATCHES = Path("target", "mismatch")
 MOST_SHOWN = 20
 LONGEST_SHOWN = 300
 
-CASES = 12_000
+CASES = 14_400
 
 
 def excerpt(line, place):

@@ -7,6 +7,7 @@ import files
 import m9
 import rules
 import shifts
+import texts
 
 LONGEST_FIELD = 66_000
 HEAD = struct.Struct("<B3I")
@@ -62,6 +63,10 @@ KINDS = {
     11: Kind("list", (), "bc", shifts.build),
     12: Kind("fetch", ("number",), "b", shifts.fetch),
     13: Kind("extend", ("table", "state", "held", "count"), "bc", shifts.extend),
+    14: Kind("text", (), "b", texts.read),
+    15: Kind("tighter", ("table", "table"), "", texts.tighter),
+    16: Kind("print", ("table",), "", texts.printed),
+    17: Kind("rules", ("table",), "", texts.all_rules),
 }
 NUMBERS = {kind.name: number for number, kind in KINDS.items()}
 

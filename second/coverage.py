@@ -18,7 +18,9 @@ from rules import (
     ZERO_TORQUE, broken_rule, excesses, slacks,
 )
 from settlements import DELAY_GUARDS
+from table_coverage import TABLE_GRIDS, print_marks, rules_marks, tighter_marks
 from tables import RULES
+from text_coverage import TEXT_GRIDS, text_marks
 
 # No walk takes too late: rules 2 and 3 see to that. No file holds ticks enough to pass the last clock.
 NEVER_IN_A_FILE = {TOO_LATE, PAST_CLOCK}
@@ -295,7 +297,7 @@ GRIDS = {
         {phase: reachable(phase) for phase in range(ERROR + 1)},
     ),
     **{name: Grid(*grid) for grids in (
-        list_coverage.LIST_GRIDS, extend_coverage.EXTEND_GRIDS, DELAY_GRIDS, DEFAULT_GRIDS,
+        list_coverage.LIST_GRIDS, extend_coverage.EXTEND_GRIDS, DELAY_GRIDS, DEFAULT_GRIDS, TEXT_GRIDS, TABLE_GRIDS,
     ) for name, grid in grids.items()},
 }
 
@@ -574,6 +576,10 @@ MARKS = {
     "list": list_marks,
     "fetch": fetch_marks,
     "extend": extend_marks,
+    "text": text_marks,
+    "tighter": tighter_marks,
+    "print": print_marks,
+    "rules": rules_marks,
     "bad": lambda _: (),
 }
 

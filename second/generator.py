@@ -15,12 +15,14 @@ import list_cases
 import manual_cases
 import refused_extend_cases
 import step_cases
+import table_cases
+import text_cases
 import write_cases
 from search import NotFound
 
 MAKERS = (
     step_cases, file_cases, join_cases, write_cases, manual_cases, block_cases, list_cases, fetch_cases, extend_cases,
-    refused_extend_cases, delay_cases, entry_cases, default_cases,
+    refused_extend_cases, delay_cases, entry_cases, default_cases, text_cases, table_cases,
 )
 
 

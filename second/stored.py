@@ -11,7 +11,7 @@ from versions import WRONG_VERSIONS, cases_needed, concerned, loaded
 STORED = ROOT / "crates" / "vectors"
 
 SEED = 1
-MADE = 12_000
+MADE = 14_400
 LONGEST = 400
 MORE_OF_A_KIND = 30
 

@@ -314,9 +314,14 @@ class Corpus(unittest.TestCase):
             ("list", b"file", b"buffer"),
             ("fetch", 11, b"list"),
             ("extend", OLD_DEFAULT, state, 12, 13, b"1234567", b"buffer"),
+            ("text", b"text"),
+            ("tighter", OLD_DEFAULT, NEW_DEFAULT),
+            ("print", OLD_DEFAULT),
+            ("rules", OLD_DEFAULT),
         ]
         cases = [case_of(*case) for case in given]
-        self.assertEqual([len(case.a) for case in cases], [44, 69, 68, 0, 0, 0, 16, 53, 44, 64, 0, 8, 76])
+        self.assertEqual([len(case.a) for case in cases],
+                         [44, 69, 68, 0, 0, 0, 16, 53, 44, 64, 0, 8, 76, 0, 88, 44, 44])
         self.assertEqual([parts_of(case) for case in cases], [list(case[1:]) for case in given])
         self.assertEqual(list(cases_in(b"".join(map(packed, cases)))), cases)
 
@@ -372,5 +377,5 @@ class Corpus(unittest.TestCase):
     def test_what_ends_a_run(self):
         good = case_of("admit", OLD_DEFAULT)
         too_long = bytes((4, 0, 0, 0, 0)) + (66_001).to_bytes(4, "little") + bytes(4 + 66_001)
-        for end in (b"\x01", packed(Case(14)), packed(Case(0)), packed(good)[:-1], too_long):
+        for end in (b"\x01", packed(Case(18)), packed(Case(0)), packed(good)[:-1], too_long):
             self.assertEqual(list(cases_in(packed(good) + end)), [good, None])

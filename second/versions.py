@@ -16,12 +16,15 @@ from wrong_files import WRONG_FILES
 from wrong_m9 import WRONG_M9
 from wrong_rules import WRONG_RULES
 from wrong_shifts import WRONG_SHIFTS
+from wrong_tables import WRONG_TABLES
+from wrong_texts import WRONG_TEXTS
 
 HERE = Path(__file__).resolve().parent
 
 # The files whose wrong versions show in cases of these kinds alone.
 SHOWN_IN = {file: {NUMBERS["manual"]} for _, file, *_ in WRONG_M9}
 SHOWN_IN["shifts.py"] = {NUMBERS[name] for name in ("list", "fetch", "extend")}
+SHOWN_IN["texts.py"] = {NUMBERS[name] for name in ("text", "tighter", "print", "rules")}
 
 
 class Wrong(NamedTuple):
@@ -37,6 +40,7 @@ WRONG_VERSIONS = [
     *(Wrong(what, "rules.py", old, new) for what, old, new in WRONG_RULES),
     *(Wrong(what, "files.py", old, new) for what, old, new in WRONG_FILES),
     *(Wrong(what, "shifts.py", old, new) for what, old, new in WRONG_SHIFTS + WRONG_EXTENDS),
+    *(Wrong(what, "texts.py", old, new) for what, old, new in WRONG_TEXTS + WRONG_TABLES),
     Wrong("the wish for none crossed", "corpus.py", "table if wish else None", "None if wish else table"),
     *(Wrong(*wrong) for wrong in WRONG_M9 + WRONG_DELAYS + WRONG_DEFAULTS),
 ]

@@ -289,6 +289,73 @@ static void admitting(void)
     memset(&table, 0, sizeof table), admits("all 0", table, 1);
 }
 
+/* ---- munasirel_tighter */
+static void tightens(const char *name, munasirel_limits old_table, munasirel_limits new_table, unsigned want)
+{
+    check("tighter", name, "entry", munasirel_tighter(old_table, new_table) == want);
+}
+
+/* The entry's number where it is tighter by so much more or less, 22 where it is not: < is an entry that is tighter where it is
+ * smaller, > one that is where it is larger. */
+static unsigned tighter_by(unsigned entry, int change)
+{
+    static const char kinds[] = "<<<<<<<<<<<>><<<<.>>>>";
+    return kinds[entry] == (change < 0 ? '<' : '>') ? entry : 22;
+}
+
+static munasirel_limits moved(munasirel_limits table, unsigned entry, int change)
+{
+    uint16_t entries[22];
+    memcpy(entries, &table, sizeof entries);
+    return changed(table, entry, (unsigned)(entries[entry] + change));
+}
+
+static void tightening(void)
+{
+    munasirel_limits least, most, table;
+    memset(&least, 0, sizeof least);
+    memset(&most, 255, sizeof most);
+    tightens("the old default, twice", old_default, old_default, 22);
+    tightens("the new default, twice", new_default, new_default, 22);
+    tightens("the house's, twice", house, house, 22);
+    tightens("all 0, twice", least, least, 22);
+    tightens("all 65,535, twice", most, most, 22);
+    tightens("from the old default to the new one", old_default, new_default, 22);
+    tightens("from the new default to the old one", new_default, old_default, 0);
+    tightens("from the new default to the house's", new_default, house, 18);
+    tightens("from the house's to the new default", house, new_default, 22);
+    tightens("from the old default to the house's", old_default, house, 18);
+    tightens("from the house's to the old default", house, old_default, 0);
+    tightens("delays that differ", house, apart, 0);
+    tightens("from all 0 to all 65,535", least, most, 11);
+    tightens("from all 65,535 to all 0", most, least, 0);
+    for (unsigned i = 0; i < 22; i++) {
+        tightens("one less", apart, moved(apart, i, -1), tighter_by(i, -1));
+        tightens("one more", apart, moved(apart, i, 1), tighter_by(i, 1));
+        tightens("one less, the other way", moved(apart, i, -1), apart, tighter_by(i, 1));
+        tightens("one more, the other way", moved(apart, i, 1), apart, tighter_by(i, -1));
+        tightens("from 0 to 65,535", least, changed(least, i, 65535), tighter_by(i, 1));
+        tightens("from 65,535 to 0", most, changed(most, i, 0), tighter_by(i, -1));
+        tightens("from 255 to 256", changed(least, i, 255), changed(least, i, 256), tighter_by(i, 1));
+        tightens("from 256 to 255", changed(least, i, 256), changed(least, i, 255), tighter_by(i, -1));
+    }
+    /* two entries at once, each one less or one more: the first of them that is tighter */
+    for (unsigned i = 0; i < 22; i++)
+        for (unsigned j = i + 1; j < 22; j++)
+            for (int ways = 0; ways < 4; ways++) {
+                int of_i = ways & 1 ? 1 : -1, of_j = ways & 2 ? 1 : -1;
+                unsigned want = tighter_by(i, of_i) < 22 ? i : tighter_by(j, of_j);
+                tightens("two at once", apart, moved(moved(apart, i, of_i), j, of_j), want);
+            }
+    /* from an entry on all are tighter, and all before it looser */
+    for (unsigned from = 0; from <= 22; from++) {
+        table = apart;
+        for (unsigned i = 0; i < 22; i++)
+            table = moved(table, i, (tighter_by(i, -1) < 22) == (i >= from) ? -1 : 1);
+        tightens("from an entry on", apart, table, from == 17 ? 18 : from);
+    }
+}
+
 /* ---- the tables that have a name: munasirel_old_default, munasirel_new_default and munasirel_house */
 static munasirel_limits is_named(const char *name, munasirel_limits (*table)(void), munasirel_limits want)
 {
@@ -1173,6 +1240,7 @@ int main(void)
     judging();
     giving();
     admitting();
+    tightening();
     naming();
     tabling();
     lining();

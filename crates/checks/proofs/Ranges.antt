@@ -1,4 +1,4 @@
--- From a statement on each number of a range to the statement on any: a case split that omega closes in one call.
+-- From a statement on each number of a range to the statement on any: a case split that omega closes in one call. And back.
 -- Assumes nothing.
 use mathlib.Core.Path.{_≡_, refl, sym, subst}
 use mathlib.Core.Logic.{⊎-elim}
@@ -23,6 +23,10 @@ pub from : (P : ℕ → Type 0) (i n : ℕ) → From P i n → (k : ℕ) → i �
 from P i zero b k l h = absurd (omega arith)
 from P i (suc n) b k l h =
     ⊎-elim (λ e. subst P e (b .0)) (λ m. from P (suc i) n (b .1) k m (omega arith)) (eq-or-lt-of-le l)
+
+pub each-of : (P : ℕ → Type 0) (i n : ℕ) → ((k : ℕ) → i ≤ k → k < i + n → P k) → From P i n
+each-of P i zero f = tt
+each-of P i (suc n) f = (f i (omega arith) (omega arith), each-of P (suc i) n (λ k l h. f k (omega arith) (omega arith)))
 
 -- what none of the arms 0 to n - 1 of a `match` took is n or more
 pub past-arms : (n p : ℕ) → Below (λ k. p ≡ k → ⊥) n → n ≤ p

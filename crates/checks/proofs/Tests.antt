@@ -1,9 +1,9 @@
--- For omega: a test on numbers, or its failure, is read as its fact and shown from it.
+-- For omega: a test on numbers, or its failure, is read as its fact and shown from it. And tests of statements.
 -- Assumes nothing.
 use mathlib.Core.Path.{_≡_, refl, sym, subst}
-use mathlib.Core.Logic.{_⊎_, inl, inr}
+use mathlib.Core.Logic.{_↔_, _⊎_, inl, inr, ⊎-elim}
 use mathlib.Core.Bool.{Bool, true, false, not, _&&_, _||_}
-use Prim.Native.Nat.{ℕ, _<_}
+use Prim.Native.Nat.{ℕ, _≤_, _<_}
 use lib.Dec.{T, leb, eqb, leb→le, le→leb, eqb→eq, eqb-refl, nleb→lt, T-not}
 use borrow.Author.Tests.{lt-leb, ne-eqb}
 
@@ -55,3 +55,32 @@ pub one-of : (a b : Bool) → T a ⊎ T b → T (a || b)
 one-of true b h = tt
 one-of false b (inl n) = absurd n
 one-of false b (inr h) = h
+
+-- ---- a test of a statement passes exactly where it holds
+pub record Tests (b : Bool) (P : Type 0) : Type 0 where
+  pub read : T b → P
+  pub shown : P → T b
+
+pub exactly : {b : Bool} {P : Type 0} → Tests b P → T b ↔ P
+exactly t = (t .read, t .shown)
+
+pub nothing-to-test : Tests true (Unit {0})
+nothing-to-test = record { read = λ _. tt; shown = λ _. tt }
+
+pub most : {m n : ℕ} → Tests (leb m n) (m ≤ n)
+most {m} {n} = record { read = leb→le m n; shown = le→leb m n }
+
+pub equal : {m n : ℕ} → Tests (eqb m n) (m ≡ n)
+equal {m} {n} = record { read = eqb→eq m n; shown = eq→eqb m n }
+
+pub all-of : {a b : Bool} {P Q : Type 0} → Tests a P → Tests b Q → Tests (a && b) (P × Q)
+all-of {a} {b} p q = record {
+  read = λ h. (p .read (left a b h), q .read (right a b h));
+  shown = λ h. both a b (p .shown (h .0)) (q .shown (h .1));
+}
+
+pub some-of : {a b : Bool} {P Q : Type 0} → Tests a P → Tests b Q → Tests (a || b) (P ⊎ Q)
+some-of {a} {b} p q = record {
+  read = λ h. ⊎-elim (λ x. inl (p .read x)) (λ y. inr (q .read y)) (either a b h);
+  shown = ⊎-elim (λ x. one-of a b (inl (p .shown x))) (λ y. one-of a b (inr (q .shown y)));
+}

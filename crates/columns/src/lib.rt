@@ -1,11 +1,11 @@
-// A table for people: words and numbers padded to the width of their column, in a text that is written to standard output whenever
-// it is full.
+// A page for people: words and numbers padded to the width of their column, and words between, in a text that is written to standard
+// output whenever it is full.
 ghost use mathlib.Core.Path.{_≡_};
 ghost use Prim.Native.Nat.{_-_, _≤_, _<_};
 ghost use lib.ListN.{length};
 use libc::STDOUT_FILENO;
 
-// A table as far as it is laid: the bytes of the text that are in use, the spaces that a further cell of the row has before it, and
+// A page as far as it is laid: the bytes of the text that are in use, the spaces that a further cell of the row has before it, and
 // whether a part could not be written.
 pub struct Page {
     used: usize,
@@ -14,7 +14,7 @@ pub struct Page {
 }
 
 impl Page {
-    // A table without a row.
+    // A page without a row.
     pub fn blank() -> Page {
         Page {
             used: 0,
@@ -26,13 +26,13 @@ impl Page {
     // A cell with a word at its left.
     pub fn left(self, text: &mut [u8; 4096], word: &[u8], width: u8) -> Page {
         let page = self.indented(text).bytes(text, word);
-        page.owing(padding(width, word.len()) + 2)
+        page.owing(padding(width as usize, word.len()) + 2)
     }
 
     // A cell with a word at its right.
     pub fn right(self, text: &mut [u8; 4096], word: &[u8], width: u8) -> Page {
-        let page = self.indented(text).owing(padding(width, word.len()));
-        page.indented(text).bytes(text, word).owing(2)
+        let page = self.spaced(text, padding(width as usize, word.len()));
+        page.bytes(text, word).owing(2)
     }
 
     // A cell with a number in decimal at its right.
@@ -42,12 +42,36 @@ impl Page {
         self.right(text, &digits[..count], width)
     }
 
+    // A cell with the difference of two numbers at its right, behind a minus sign where the second is the larger one.
+    pub fn difference(self, text: &mut [u8; 4096], n: u64, less: u64, width: u8) -> Page {
+        if less <= n {
+            return self.number(text, n - less, width);
+        }
+        let mut digits = [0u8; 20];
+        let count = io::decimal(less - n, &mut digits);
+        let unsigned = padding(width as usize, 1);
+        let page = self.spaced(text, padding(unsigned, count)).byte(text, b'-');
+        page.bytes(text, &digits[..count]).owing(2)
+    }
+
+    // Words that stand in no column: nothing is owed behind them.
+    pub fn words(self, text: &mut [u8; 4096], words: &[u8]) -> Page {
+        self.indented(text).bytes(text, words).owing(0)
+    }
+
+    // A number in decimal among such words.
+    pub fn figure(self, text: &mut [u8; 4096], n: u64) -> Page {
+        let mut digits = [0u8; 20];
+        let count = io::decimal(n, &mut digits);
+        self.words(text, &digits[..count])
+    }
+
     // The end of a row. Nothing stands behind its last word.
     pub fn end(self, text: &mut [u8; 4096]) -> Page {
         self.byte(text, b'\n').owing(0)
     }
 
-    // Writes what is left, and answers whether the whole table was written.
+    // Writes what is left, and answers whether the whole page was written.
     pub fn close(self, text: &mut [u8; 4096]) -> bool {
         let page = self.room(text);
         !page.failed && write(text, page.used)
@@ -59,6 +83,11 @@ impl Page {
             owed,
             failed: self.failed,
         }
+    }
+
+    // The spaces that are owed, and so many more.
+    fn spaced(self, text: &mut [u8; 4096], more: usize) -> Page {
+        self.indented(text).owing(more).indented(text)
     }
 
     // The spaces that are owed.
@@ -120,12 +149,11 @@ fn write(text: &[u8], count: usize) -> bool
 }
 
 // How many spaces fill a column of this width beside so many bytes.
-fn padding(width: u8, length: usize) -> usize
+fn padding(width: usize, length: usize) -> usize
     ensures { λ r. ⌜ r ≡ width - length ⌝ }
 {
-    let wide = width as usize;
-    if wide < length {
+    if width < length {
         return 0;
     }
-    wide - length
+    width - length
 }

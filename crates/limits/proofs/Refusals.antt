@@ -2,16 +2,16 @@
 -- its words, and the broken rule is the first of them that does not.
 -- Assumes nothing.
 use mathlib.Core.Path.{_≡_, refl}
-use mathlib.Core.Logic.{_↔_, _⊎_, inl, inr, ⊎-elim}
+use mathlib.Core.Logic.{_↔_, _⊎_}
 use mathlib.Core.Bool.{Bool, _&&_, _||_}
 use mathlib.Core.List.{List, [], _∷_, map}
 use Prim.Native.Nat.{ℕ, suc, _≤_, _<_}
-use lib.Dec.{T, leb, ltb, eqb, leb→le, le→leb, eqb→eq, T-not}
+use lib.Dec.{T-not}
 use Rattle.checks.specs.Checks.{numbered}
 use Rattle.checks.specs.Conditions.{FirstOf}
 use Rattle.checks.proofs.ConditionLaws.{Tested, first-of}
 use Rattle.checks.proofs.Checks.{Holds, holds→first, first→holds, at-most}
-use Rattle.checks.proofs.Tests.{eq→eqb, left, right, both, either, one-of}
+use Rattle.checks.proofs.Tests.{Tests, nothing-to-test, most, equal, all-of, some-of}
 use Rattle.limits.specs.declared.Table.{Table}
 use Rattle.limits.specs.Limits.{limits, undelayed}
 use Rattle.limits.specs.Rules.{atLeast1, waits, rules, brokenRule}
@@ -21,11 +21,8 @@ use Rattle.limits.proofs.Table.old_default.Reads as old-default-reads
 use Rattle.limits.proofs.Table.new_default.Reads as new-default-reads
 use Rattle.limits.proofs.Table.house.Reads as house-reads
 
--- a test of a statement, and tests of a list of them
-abbrev pub Tests : Bool → Type 0 → Type 0
-Tests b P = T b ↔ P
-
-abbrev Each : List Bool → List (Type 0) → Type 0
+-- tests of a list of statements
+abbrev pub Each : List Bool → List (Type 0) → Type 0
 Each [] [] = Unit {0}
 Each [] (P ∷ Ps) = ⊥
 Each (b ∷ bs) [] = ⊥
@@ -36,7 +33,7 @@ tested n [] [] h = tt
 tested n [] (P ∷ Ps) h = h
 tested n (b ∷ bs) [] h = h
 tested n (b ∷ bs) (P ∷ Ps) h =
-    ((λ f p. T-not b f (h .0 .1 p), (λ o f. f (h .0 .0 o), refl)), tested (suc n) bs Ps (h .1))
+    ((λ f p. T-not b f (h .0 .shown p), (λ o f. f (h .0 .read o), refl)), tested (suc n) bs Ps (h .1))
 
 every : (n : ℕ) (bs : List Bool) (Ps : List (Type 0)) → Each bs Ps → Holds (numbered n bs) ↔ All Ps
 every n [] [] h = (λ _. tt, λ _. tt)
@@ -44,52 +41,26 @@ every n [] (P ∷ Ps) h = absurd h
 every n (b ∷ bs) [] h = absurd h
 every n (b ∷ bs) (P ∷ Ps) h =
     let rest = every (suc n) bs Ps (h .1) in
-    (λ q. (h .0 .0 (q .0), rest .0 (q .1)), λ q. (h .0 .1 (q .0), rest .1 (q .1)))
+    (λ q. (h .0 .read (q .0), rest .0 (q .1)), λ q. (h .0 .shown (q .0), rest .1 (q .1)))
 
 -- rule 1, entry by entry
 at-least : (xs : List ℕ) → Tests (atLeast1 xs) (All (map (λ x. 1 ≤ x) xs))
-at-least [] = (λ _. tt, λ _. tt)
-at-least (x ∷ xs) =
-    let rest = at-least xs in (
-      λ h. (leb→le 1 x (left (leb 1 x) (atLeast1 xs) h), rest .0 (right (leb 1 x) (atLeast1 xs) h)),
-      λ h. both (leb 1 x) (atLeast1 xs) (le→leb 1 x (h .0)) (rest .1 (h .1)),
-    )
-
-most : {m n : ℕ} → Tests (leb m n) (m ≤ n)
-most {m} {n} = (leb→le m n, le→leb m n)
+at-least [] = nothing-to-test
+at-least (x ∷ xs) = all-of most (at-least xs)
 
 -- rule 16: the four zeros, and the two orders that wait
 pub zeros : (t : Table) → Tests (undelayed t) (NoDelays t)
 zeros t =
-    let a = eqb (t .«clutch_open_de») 0 in
-    let b = eqb (t .«error_clutch_open_de») 0 in
-    let c = eqb (t .«clutch_close_de») 0 in
-    let d = eqb (t .«error_clutch_close_de») 0 in (
-      λ h.
-          let h2 = right a (b && (c && d)) h in
-          let h3 = right b (c && d) h2 in
-          record {
-            plain-open = eqb→eq (t .«clutch_open_de») 0 (left a (b && (c && d)) h);
-            error-open = eqb→eq (t .«error_clutch_open_de») 0 (left b (c && d) h2);
-            plain-close = eqb→eq (t .«clutch_close_de») 0 (left c d h3);
-            error-close = eqb→eq (t .«error_clutch_close_de») 0 (right c d h3);
-          },
-      λ n.
-          both a (b && (c && d)) (eq→eqb (t .«clutch_open_de») 0 (n .plain-open))
-          (both b (c && d) (eq→eqb (t .«error_clutch_open_de») 0 (n .error-open))
-          (both c d (eq→eqb (t .«clutch_close_de») 0 (n .plain-close)) (eq→eqb (t .«error_clutch_close_de») 0 (n .error-close)))),
-    )
+    let each : Tests (undelayed t) _ = all-of equal (all-of equal (all-of equal equal)) in
+    record {
+      read = λ h.
+          let z = each .read h in
+          record { plain-open = z .0; error-open = z .1 .0; plain-close = z .1 .1 .0; error-close = z .1 .1 .1 };
+      shown = λ n. each .shown (n .plain-open, (n .error-open, (n .plain-close, n .error-close)));
+    }
 
-waiting : (plain error device : ℕ) → Tests (waits plain error device) ((1 ≤ plain) × (plain < error) × (error ≤ device))
-waiting plain error device =
-    let a = leb 1 plain in
-    let b = ltb plain error in
-    let c = leb error device in (
-      λ h.
-          let h2 = right a (b && c) h in
-          (leb→le 1 plain (left a (b && c) h), leb→le (suc plain) error (left b c h2), leb→le error device (right b c h2)),
-      λ h. both a (b && c) (le→leb 1 plain (h .0)) (both b c (le→leb (suc plain) error (h .1)) (le→leb error device (h .2))),
-    )
+waiting : (plain error device : ℕ) → Tests (waits plain error device) ((1 ≤ plain) × ((plain < error) × (error ≤ device)))
+waiting plain error device = all-of most (all-of most most)
 
 module _ (t : Table) where
   abbrev opens : Bool
@@ -100,31 +71,29 @@ module _ (t : Table) where
 
   both-wait : Tests (opens && closes) (BothDelayed t)
   both-wait =
-      let o = waiting (t .«clutch_open_de») (t .«error_clutch_open_de») (t .«clutch_open_dl») in
-      let c = waiting (t .«clutch_close_de») (t .«error_clutch_close_de») (t .«clutch_close_dl») in (
-        λ h.
-            let p = o .0 (left opens closes h) in
-            let q = c .0 (right opens closes h) in
+      let each =
+      all-of
+      (waiting (t .«clutch_open_de») (t .«error_clutch_open_de») (t .«clutch_open_dl»))
+      (waiting (t .«clutch_close_de») (t .«error_clutch_close_de») (t .«clutch_close_dl»)) in
+      record {
+        read = λ h.
+            let w = each .read h in
             record {
-              plain-open = p .0;
-              plain-close = q .0;
-              exceeds-open = p .1;
-              exceeds-close = q .1;
-              within-open = p .2;
-              within-close = q .2;
-            },
-        λ d.
-            both opens closes (o .1 (d .plain-open, d .exceeds-open, d .within-open))
-            (c .1 (d .plain-close, d .exceeds-close, d .within-close)),
-      )
+              plain-open = w .0 .0;
+              plain-close = w .1 .0;
+              exceeds-open = w .0 .1 .0;
+              exceeds-close = w .1 .1 .0;
+              within-open = w .0 .1 .1;
+              within-close = w .1 .1 .1;
+            };
+        shown = λ d.
+            each .shown ((d .plain-open, (d .exceeds-open, d .within-open)), (d .plain-close, (d .exceeds-close, d .within-close)));
+      }
 
   delays : Tests (undelayed t || (opens && closes)) (NoDelays t ⊎ BothDelayed t)
-  delays = (
-    λ h. ⊎-elim (λ z. inl (zeros t .0 z)) (λ w. inr (both-wait .0 w)) (either (undelayed t) (opens && closes) h),
-    ⊎-elim (λ z. one-of (undelayed t) (opens && closes) (inl (zeros t .1 z))) (λ w. one-of (undelayed t) (opens && closes) (inr (both-wait .1 w))),
-  )
+  delays = some-of (zeros t) both-wait
 
-  each : Each (rules t) (rulesStated t)
+  pub each : Each (rules t) (rulesStated t)
   each = (at-least (limits t), (most, (most, (most, (most, (most, (most, (most, (most, (most, (most, (most, (most, (most, (most, (delays, tt))))))))))))))))
 
   pub in-order : FirstOf (broken t) (brokenRule t)

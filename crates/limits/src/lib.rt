@@ -286,7 +286,7 @@ impl Table {
     }
 
     // Each of the first eighteen entries is at least 1.
-    fn is_set(self) -> bool
+    pub fn is_set(self) -> bool
         ensures { λ r. ⌜ r ≡ atLeast1 (limits self) ⌝ }
     {
         (1 <= self.channel_dl)
@@ -321,26 +321,26 @@ pub fn entry_at(entries: &[u16; 22], number: usize) -> u16
 }
 
 // A clutch order waits: its plain delay is at least 1, and its error delay beyond that and within the device's limit.
-fn waits(plain: u16, error: u16, device: u16) -> bool
+pub fn waits(plain: u16, error: u16, device: u16) -> bool
     ensures { λ r. ⌜ r ≡ waits plain error device ⌝ }
 {
     (1 <= plain) & ((plain < error) & (error <= device))
 }
 
 // Both ways over the channel, and a limit.
-fn both_ways(ch: u16, limit: u16) -> u32
+pub fn both_ways(ch: u16, limit: u16) -> u32
     ensures { λ r. ⌜ (r ≡ 2 * ch + limit) × (r ≤ 196605) ⌝ }
 {
     2 * (ch as u32) + (limit as u32)
 }
 
-fn wide(x: u16) -> u32
+pub fn wide(x: u16) -> u32
     ensures { λ r. ⌜ (r ≡ x) × (r ≤ 65535) ⌝ }
 {
     x as u32
 }
 
-fn sum(a: u16, b: u16) -> u32
+pub fn sum(a: u16, b: u16) -> u32
     ensures { λ r. ⌜ (r ≡ a + b) × (r ≤ 131070) ⌝ }
 {
     a as u32 + (b as u32)

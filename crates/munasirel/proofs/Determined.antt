@@ -24,6 +24,7 @@ use Rattle.munasirel.proofs.munasirel_advance_block as advance-block
 use Rattle.munasirel.proofs.munasirel_judge.Reads as judge-reads
 use Rattle.munasirel.proofs.munasirel_verdict.Reads as verdict-reads
 use Rattle.munasirel.proofs.munasirel_admit.Reads as admit-reads
+use Rattle.munasirel.proofs.munasirel_tighter.Reads as tighter-reads
 use Rattle.munasirel.proofs.munasirel_old_default.Reads as old-default-reads
 use Rattle.munasirel.proofs.munasirel_new_default.Reads as new-default-reads
 use Rattle.munasirel.proofs.munasirel_house.Reads as house-reads
@@ -43,6 +44,9 @@ munasirel-verdict κs a x y at at′ p q = p ∙ sym q
 
 pub munasirel-admit : Determined admit-reads.Post
 munasirel-admit κs a x y at at′ p q = p ∙ sym q
+
+pub munasirel-tighter : Determined tighter-reads.Post
+munasirel-tighter κs a x y at at′ p q = p ∙ sym q
 
 pub munasirel-old-default : Determined old-default-reads.Post
 munasirel-old-default κs a x y at at′ p q = p ∙ sym q

@@ -2,6 +2,7 @@
 ghost use mathlib.Core.Path.{_≡_};
 ghost use Rattle.limits.specs.Limits.{oldDefault, newDefault, house};
 ghost use Rattle.limits.specs.Rules.{brokenRule};
+ghost use Rattle.admission.specs.FirstTighter.{firstTighter};
 ghost use Rattle.stepfile.specs.Files.{tableIn};
 ghost use Rattle.line.specs.Laying.{laid, after};
 ghost use Rattle.transfer.specs.Join.{joined, bufferAfter};
@@ -42,6 +43,14 @@ pub extern "C" fn munasirel_admit(table: Table) -> u8
     ensures { λ r. ⌜ r ≡ brokenRule table ⌝ }
 {
     table.broken_rule()
+}
+
+// The number of the first entry that is tighter in the new table than in the old one, 22 where none is.
+#[no_mangle]
+pub extern "C" fn munasirel_tighter(old: Table, new: Table) -> u8
+    ensures { λ r. ⌜ r ≡ firstTighter old new ⌝ }
+{
+    admission::first_tighter(old, new)
 }
 
 // The old default, under which a file without a table is judged for ever.

@@ -115,7 +115,7 @@ not-ahead s k WrongAmount = k
 pub admitted-as-before : (t : Table) → NoDelays t → ruleBefore t ≡ brokenRule t
 admitted-as-before t z =
     let older = setRule t ++ (engineRules t ++ (deviceRules t ++ (askRules t ++ routeRules t))) in
-    let none = passed (undelayed t) (zeros t .1 z) in
+    let none = passed (undelayed t) (zeros t .shown z) in
     sym (first-alone (numbered 1 older) (numbered 16 (delayRules t)) (rw none))
 
 -- ---- lists

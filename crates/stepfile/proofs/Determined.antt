@@ -10,6 +10,7 @@ use Rattle.stepfile.proofs.record_refusal.Reads as record-refusal-reads
 use Rattle.stepfile.proofs.records.Reads as records-reads
 use Rattle.stepfile.proofs.refused.Reads as refused-reads
 use Rattle.stepfile.proofs.table.Reads as table-reads
+use Rattle.stepfile.proofs.write.entries_for.Reads as entries-for-reads
 use Rattle.stepfile.proofs.write.most_for.Reads as most-for-reads
 use Rattle.stepfile.proofs.write.write.Reads as write-reads
 
@@ -24,6 +25,9 @@ record-of κs a x y at at′ p q = p ∙ sym q
 
 pub record-refusal : Determined record-refusal-reads.Post
 record-refusal κs a x y at at′ p q = p ∙ sym q
+
+pub entries-for : Determined entries-for-reads.Post
+entries-for κs a x y at at′ p q = p ∙ sym q
 
 pub most-for : Determined most-for-reads.Post
 most-for κs a x y at at′ p q = p ∙ sym q

@@ -60,16 +60,16 @@ module _ (t : Table) where
   pub delays : NoDelays t ⊎ ¬ NoDelays t
   delays =
       case (undelayed t)
-      (λ e. inl (zeros t .0 (passes (undelayed t) e)))
-      (λ e. inr (λ n. subst T e (zeros t .1 n)))
+      (λ e. inl (zeros t .read (passes (undelayed t) e)))
+      (λ e. inr (λ n. subst T e (zeros t .shown n)))
 
   pub in-eighteen : NoDelays t → entriesFor t ≡ limits t
-  in-eighteen n = ap (λ b. cond b (limits t) (entries t)) (passed (undelayed t) (zeros t .1 n))
+  in-eighteen n = ap (λ b. cond b (limits t) (entries t)) (passed (undelayed t) (zeros t .shown n))
 
   pub in-twenty-two : ¬ NoDelays t → entriesFor t ≡ entries t
   in-twenty-two n =
       case (undelayed t)
-      (λ e. absurd (n (zeros t .0 (passes (undelayed t) e))))
+      (λ e. absurd (n (zeros t .read (passes (undelayed t) e))))
       (λ e. ap (λ b. cond b (limits t) (entries t)) e)
 
   pub how-many : (length (entriesFor t) ≡ 18) ⊎ (length (entriesFor t) ≡ 22)

@@ -12,6 +12,7 @@ pub mod WholeLaws
 pub mod RoundTrip
 pub mod RoundTripCalls
 pub mod WishForNone
+pub mod TableAlone
 pub mod GoodFiles
 pub mod FileRefusals
 pub mod RecordRefusals

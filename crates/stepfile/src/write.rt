@@ -44,7 +44,7 @@ impl Wish {
 }
 
 // How many entries a table is written with: eighteen where its four delays are 0, else twenty-two.
-fn entries_for(table: Table) -> usize
+pub fn entries_for(table: Table) -> usize
     ensures { λ r. ⌜ r ≡ length (entriesFor table) ⌝ }
 {
     if table.is_undelayed() {

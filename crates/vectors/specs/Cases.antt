@@ -23,6 +23,10 @@ lengths a b c =
     ∷ eqb a 0
     ∷ (eqb a 8 && eqb c 0)
     ∷ eqb a 76
+    ∷ (eqb a 0 && eqb c 0)
+    ∷ (eqb a 88 && eqb b 0 && eqb c 0)
+    ∷ (eqb a 44 && eqb b 0 && eqb c 0)
+    ∷ (eqb a 44 && eqb b 0 && eqb c 0)
     ∷ []
 
 abbrev pub sized : ℕ → ℕ → ℕ → ℕ → Bool

@@ -119,3 +119,19 @@ pub(crate) fn extend(a: &[u8], records: &[u8], list: &mut [u8]) {
     let table = table_at(a, 0);
     listing::extend(list, held, state, count, table, records);
 }
+
+pub(crate) fn text(text: &[u8]) {
+    tabling::text(text);
+}
+
+pub(crate) fn tighter(a: &[u8]) {
+    tabling::tighter(table_at(a, 0), table_at(a, 44));
+}
+
+pub(crate) fn print(a: &[u8]) {
+    tabling::print(table_at(a, 0));
+}
+
+pub(crate) fn rules(a: &[u8]) {
+    tabling::rules(table_at(a, 0));
+}

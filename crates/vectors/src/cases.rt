@@ -13,9 +13,9 @@ use numbers::u32_at;
 
 const END: u8 = 0;
 
-const NO_CASE: u8 = 14;
+const NO_CASE: u8 = 18;
 
-// A case's kind, 1 to 13, and the lengths of its fields; or that the input has ended, or that no case is there.
+// A case's kind, 1 to 17, and the lengths of its fields; or that the input has ended, or that no case is there.
 struct Head {
     kind: u8,
     a: usize,
@@ -59,7 +59,7 @@ fn head_of(bytes: &[u8]) -> Head {
     let a = u32_at(bytes, 1);
     let b = u32_at(bytes, 5);
     let c = u32_at(bytes, 9);
-    if (kind < 1) | (13 < kind) | (66000 < a) | (66000 < b) | (66000 < c) {
+    if (kind < 1) | (17 < kind) | (66000 < a) | (66000 < b) | (66000 < c) {
         return without_fields(NO_CASE);
     }
     Head {
@@ -123,17 +123,21 @@ fn is_sized(kind: u8, a: usize, b: usize, c: usize) -> bool
         11 => a == 0,
         12 => (a == 8) & (c == 0),
         13 => a == 76,
+        14 => (a == 0) & (c == 0),
+        15 => (a == 88) & (b == 0) & (c == 0),
+        16 => (a == 44) & (b == 0) & (c == 0),
+        17 => (a == 44) & (b == 0) & (c == 0),
         _ => false,
     }
 }
 
 // Each word stands at eight times its kind.
 fn word(kind: u8) {
-    if 13 < kind {
+    if 17 < kind {
         return;
     }
     let words =
-        b"        admit   step    advance read    judge   line    join    write   manual  block   list    fetch   extend  ";
+        b"        admit   step    advance read    judge   line    join    write   manual  block   list    fetch   extend  text    tighter print   rules   ";
     let from = 8 * (kind as usize);
     write_part(words, from, from + letters(kind));
 }
@@ -156,6 +160,9 @@ fn letters(kind: u8) -> usize
         10 => 5,
         12 => 5,
         13 => 6,
+        15 => 7,
+        16 => 5,
+        17 => 5,
         _ => 4,
     }
 }
@@ -178,6 +185,10 @@ fn print_rest(kind: u8, a: &[u8], b: &[u8], c: &mut [u8])
         11 => answers::list(b, c),
         12 => answers::fetch(a, b),
         13 => answers::extend(a, b, c),
+        14 => answers::text(b),
+        15 => answers::tighter(a),
+        16 => answers::print(a),
+        17 => answers::rules(a),
         _ => {}
     }
 }

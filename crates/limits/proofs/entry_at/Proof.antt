@@ -1,21 +1,14 @@
 -- `entry_at` meets its contract: one of the twenty-two, and past them there is none.
 -- Assumes nothing.
-use mathlib.Core.Path.{_≡_, refl, sym}
+use mathlib.Core.Path.{_≡_, sym}
 use mathlib.Core.List.{List}
-use Prim.Native.Nat.{ℕ, _≤_, _<_}
-use lib.ListN.{getD, List·getD-eq-default}
+use Prim.Native.Nat.{ℕ, _≤_}
+use lib.ListN.{List·getD-eq-default}
 use borrow.Author.Needs.{needs}
-use Rattle.checks.proofs.Ranges.{below}
 use Rattle.limits.specs.Limits.{entries, entry, tableOf}
+use Rattle.limits.proofs.EntryLaws.{of-twenty-two}
 use Rattle.limits.proofs.entry_at.Statement.{statement}
 use Rattle.limits.proofs.entry_at.Tie as tie
-
-of-twenty-two : (es : List ℕ) (n : ℕ) → n < 22 → getD es n 0 ≡ entry (tableOf es) n
-of-twenty-two es =
-    below
-    (λ k. getD es k 0 ≡ entry (tableOf es) k)
-    22
-    ((((((((((((((((((((((tt, refl), refl), refl), refl), refl), refl), refl), refl), refl), refl), refl), refl), refl), refl), refl), refl), refl), refl), refl), refl), refl), refl)
 
 none-past : (es : List ℕ) (n : ℕ) → 22 ≤ n → 0 ≡ entry (tableOf es) n
 none-past es n h = sym (List·getD-eq-default (entries (tableOf es)) 0 {n = n} h)

@@ -26,6 +26,10 @@ is-sized-spec =
     (λ c. rw (c .match .keys12))
     (λ c. rw (c .match .keys13))
     (λ c. rw (c .match .keys14))
+    (λ c. rw (c .match .keys15))
+    (λ c. rw (c .match .keys16))
+    (λ c. rw (c .match .keys17))
+    (λ c. rw (c .match .keys18))
     (λ c.
     let a = c .before .args in
-    sym (List·getD-eq-default (lengths (a .a) (a .b) (a .c)) false (past-arms 14 (a .kind) (c .match .rest)))))
+    sym (List·getD-eq-default (lengths (a .a) (a .b) (a .c)) false (past-arms 18 (a .kind) (c .match .rest)))))

@@ -1,0 +1,3 @@
+pub mod FirstTighter
+pub mod Broken
+pub mod Refusals

@@ -1,0 +1,11 @@
+pub mod GivenLaws
+pub mod LineLaws
+pub mod PrintLaws
+pub mod FormLaws
+pub mod DigitLaws
+pub mod RoundTrip
+pub mod InWords
+pub mod LinesInWords
+pub mod GivenInWords
+pub mod TextInWords
+pub mod Determined
