@@ -57,8 +57,8 @@ def longest(chance):
     for kind, spare in ((BROKEN, 0), (DELAYED, 0), (DELAYED, -36)):
         yield wished(chance, kind, codes, amounts, spare)
     codes, amounts = lists(chance, MOST_RECORDS + 1)
-    for kind in HANDED:
-        yield wished(chance, kind, codes, amounts, chance.choice((0, NO_BUFFER)))
+    for kind, spare in zip(HANDED, (NO_BUFFER, 0, NO_BUFFER)):
+        yield wished(chance, kind, codes, amounts, spare)
     yield wished(chance, ADMITTED, codes, amounts[1:])
 
 

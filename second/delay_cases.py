@@ -61,7 +61,7 @@ def rules_before(chance):
 def answer_state(chance, table, phase, code, past):
     """A state in which a clutch's answer comes so far past its delay; from the phase's time it would be otherwise."""
     clock = chance.choice((FAR, LAST_CLOCK, chance.randint(FAR, LAST_CLOCK)))
-    stage_time = clock - past - delay_of(table, phase, code)
+    stage_time = min(clock - past - delay_of(table, phase, code), LAST_CLOCK)
     phase_time = clock if past >= 0 else 0
     return free_state(chance, clock=clock, phase=phase, phase_time=phase_time, stage=WORKING, stage_time=stage_time)
 
