@@ -200,9 +200,11 @@ def every_unlisted_field(chance):
 
 
 def neither_listed(chance):
-    """Codes that are none on states that are not listed."""
+    """Codes that are none on states that are not listed, and under tables that are not admitted."""
     for (field, least), code in product(LISTED_NUMBERS.items(), unlisted_codes(chance)):
         yield from both(good_table(chance), free_state(chance, **{field: least}), code, 0)
+    for code in unlisted_codes(chance):
+        yield from both(broken_table(chance), free_state(chance), code, 0)
 
 
 def accepted_step(chance, table, code, phase, box):
