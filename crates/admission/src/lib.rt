@@ -86,7 +86,7 @@ fn keeps_rule_16(table: Table) -> bool
 }
 
 // Rules 4 to 9, whose left side is less than the right one; in the others from 2 to 15 it is no more.
-fn is_strict(rule: u8) -> bool
+pub fn is_strict(rule: u8) -> bool
     ensures { λ r. ⌜ r ≡ isStrict rule ⌝ }
 {
     (4 <= rule) & (rule <= 9)

@@ -1,4 +1,5 @@
 // The lines of the rules that a limit table breaks.
+use admission::is_strict;
 use admission::left_side;
 use admission::right_entry;
 use columns::Page;
@@ -197,7 +198,7 @@ fn entry(text: &mut [u8; 4096], page: Page, entries: &[u16; 22], number: usize) 
 
 // How a broken rule has its sides.
 fn compared(text: &mut [u8; 4096], page: Page, rule: u8) -> Page {
-    if (4 <= rule) & (rule <= 9) {
+    if is_strict(rule) {
         return page.words(text, b" is not less than ");
     }
     page.words(text, b" is more than ")
