@@ -1,5 +1,6 @@
 // The program `admit`: prints whether the limit table that standard input gives is admitted, and else each way in which it breaks a
 // rule; then what the routes leave of ChangeDL.
+#![tactic(auto)]
 use columns::Page;
 use desk::Given;
 use libc::{STDERR_FILENO, STDIN_FILENO};

@@ -1,5 +1,6 @@
 // The program `admit_file`: writes a step file with the limit table that standard input gives, and with no records; nothing where the
 // table is not admitted.
+#![tactic(auto)]
 use desk::Given;
 use libc::{STDERR_FILENO, STDIN_FILENO, STDOUT_FILENO};
 use limits::Table;

@@ -1,5 +1,6 @@
 // The program `admit_from`: compares the limit table that standard input gives with an older one, on file descriptor 3, and prints
 // where it is tighter.
+#![tactic(auto)]
 use columns::Page;
 use desk::Given;
 use libc::{STDERR_FILENO, STDIN_FILENO, STDOUT_FILENO};

@@ -1,4 +1,5 @@
 // The program `admit_text`: prints the limit table that standard input gives as text.
+#![tactic(auto)]
 use desk::Given;
 use libc::{STDERR_FILENO, STDIN_FILENO, STDOUT_FILENO};
 use limits::Table;

@@ -1,12 +1,13 @@
 // A page for people: words and numbers padded to the width of their column, and words between, in a text that is written to standard
 // output whenever it is full.
+#![tactic(auto)]
 ghost use Rattle.std.specs.Prelude.{◌≡◌, ◌-◌, ◌≤◌, ◌<◌, length};
 
 use libc::STDOUT_FILENO;
 
 // A page as far as it is laid: the bytes of the text that are in use, the spaces that a further cell of the row has before it, and
 // whether a part could not be written.
-#[derive(Drop)]
+#[derive(Clone, Copy)]
 pub struct Page {
     used: usize,
     owed: usize,

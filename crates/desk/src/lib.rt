@@ -1,11 +1,12 @@
 // The desk's reading: the limit table that a file descriptor gives, as a text or in a step file; else what is wrong, as one line on
 // standard output.
+#![tactic(auto)]
 use columns::Page;
 use limits::Table;
 use tabletext::{Fault, Text};
 
 // The table that was given, or none.
-#[derive(Drop)]
+#[derive(Clone, Copy)]
 pub enum Given {
     One(Table),
     Nothing,

@@ -1,4 +1,5 @@
 // What a case of records for both engines is answered by: each from its start, up to its first number that is not 0.
+#![tactic(auto)]
 ghost use Rattle.std.specs.Prelude.{◌/◌, ◌<◌, length};
 
 use limits::Table;
@@ -14,7 +15,7 @@ pub fn print(table: Table, records: &[u8]) {
 }
 
 // A record's four bytes.
-#[derive(Drop)]
+#[derive(Clone, Copy)]
 struct Record {
     code: u8,
     middle: u8,

@@ -1,4 +1,5 @@
 // The program: reads a step file from standard input and prints the line of its verdict.
+#![tactic(auto)]
 use libc::{STDERR_FILENO, STDIN_FILENO, STDOUT_FILENO};
 
 fn main() {

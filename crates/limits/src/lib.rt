@@ -1,5 +1,7 @@
 // The limit table of document 01 with document 02's delays of the clutch: twenty-two entries, the old default, the new default, the
 // house's table, and the first rule that a table breaks.
+#![tactic(auto)]
+
 ghost use Rattle.std.specs.Prelude.{◌≡◌, false, ◌+◌, ◌*◌, ◌≤◌};
 ghost use Rattle.checks.specs.Checks.{first, numbered};
 ghost use Rattle.limits.specs.Limits.{old_default, new_default, house, limits, entries, undelayed, entry, table_of};
@@ -7,7 +9,7 @@ ghost use Rattle.limits.specs.Rules.{at_least1, engine_rules, device_rules, ask_
 
 // The limits under the manual's names, in milliseconds, in the order of their entry numbers 0 to 21.
 #[repr(C)]
-#[derive(Drop)]
+#[derive(Clone, Copy)]
 pub struct Table {
     pub channel_dl: u16,
     pub engine_sync_dl: u16,

@@ -1,10 +1,12 @@
 // The line that the program prints of document 01: a word, six numbers in decimal and a line feed, laid into a lent buffer.
+#![tactic(auto)]
+
 ghost use Rattle.std.specs.Prelude.{◌≡◌, ◌++◌, ◌+◌, ◌≤◌, length, take, drop};
 ghost use Rattle.io.specs.Counts.{IsPrefixLen};
 ghost use Rattle.line.specs.Lines.{word_of, field, line_of};
 ghost use Rattle.line.specs.Laying.{laid, after};
 
-#[derive(Drop)]
+#[derive(Clone, Copy)]
 pub enum Word {
     Accepted,
     Refused,
@@ -12,7 +14,7 @@ pub enum Word {
 }
 
 // The parts of a line in their order: the records accepted, the reason, the state's clock, phase and box, and the excess.
-#[derive(Drop)]
+#[derive(Clone, Copy)]
 pub struct Line {
     pub word: Word,
     pub count: u64,
@@ -24,7 +26,7 @@ pub struct Line {
 }
 
 // 0 and the line's length, or 15 and 0.
-#[derive(Drop)]
+#[derive(Clone, Copy)]
 pub struct Laid {
     pub number: u8,
     pub length: usize,

@@ -1,4 +1,5 @@
 // What a case of a list of shifts is answered by: the line behind its word, of a list that is built, fetched from or extended.
+#![tactic(auto)]
 use limits::Table;
 use printing::{number, number8, number16, number32, number64};
 use shift::State;

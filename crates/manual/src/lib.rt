@@ -1,4 +1,5 @@
 // Machine m9 of the manual: its variables under their own names, an event, and the comparisons that events share.
+#![tactic(auto)]
 ghost use Rattle.std.specs.Prelude.{◌≡◌, cond, ◌+◌, ◌-◌, leb};
 ghost use Rattle.manual.specs.Variables.{initialisation};
 ghost use Rattle.manual.specs.Events.{or_else};
@@ -6,7 +7,7 @@ ghost use Rattle.manual.specs.Ticks.{past, past_else};
 
 // The variables of machine m9, in the manual's order.
 #[repr(C)]
-#[derive(Drop)]
+#[derive(Clone, Copy)]
 pub struct Variables {
     pub time: u32,
     pub RequestFromNeuT: u32,
@@ -110,7 +111,7 @@ pub struct Variables {
 
 // What an event would do: whether its guards on flags hold, the number that its other guards refuse with or 0, the milliseconds by which
 // its guard on times fails or 0, and the variables after its actions.
-#[derive(Drop)]
+#[derive(Clone, Copy)]
 pub struct Event {
     pub enabled: bool,
     pub number: u8,
@@ -121,7 +122,7 @@ pub struct Event {
 // 0 and the variables after a step, or the number that refuses it and the variables that were given; the rule is 0 except with 4, the
 // excess except with 9 to 13.
 #[repr(C)]
-#[derive(Drop)]
+#[derive(Clone, Copy)]
 pub struct Moved {
     pub number: u8,
     pub rule: u8,

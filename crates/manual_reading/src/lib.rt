@@ -1,4 +1,5 @@
 // What the manual's variables say in our terms.
+#![tactic(auto)]
 ghost use Rattle.std.specs.Prelude.{◌≡◌};
 ghost use Rattle.manual_reading.specs.Reading.{or_phase, outside, from_neutral, gear_to_gear, to_neutral, stage_by, stage_of, box_of, reading};
 
@@ -8,7 +9,7 @@ use phases::{CLOSE, OPEN, RELEASE, SET, SYNC, ZERO_TORQUE, order_of};
 // Clock, box, phase and stage; in phases 1 to 21 the times of phase and request, and the stage's where it is sent, working or good;
 // 0 for what the variables do not tell.
 #[repr(C)]
-#[derive(Drop)]
+#[derive(Clone, Copy)]
 pub struct Read {
     pub clock: u32,
     pub gear_box: u8,
@@ -20,7 +21,7 @@ pub struct Read {
 }
 
 // A phase by its number, when it was entered, and when its shift was requested.
-#[derive(Drop)]
+#[derive(Clone, Copy)]
 struct Phase {
     number: u8,
     time: u32,
@@ -28,7 +29,7 @@ struct Phase {
 }
 
 // A stage by its number, and its time.
-#[derive(Drop)]
+#[derive(Clone, Copy)]
 struct Stage {
     number: u8,
     time: u32,

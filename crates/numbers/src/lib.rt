@@ -1,4 +1,6 @@
 // Little-endian numbers in a slice of bytes, read and stored at any place: behind the end zeros are read, and nothing is stored.
+#![tactic(auto)]
+
 ghost use Rattle.std.specs.Prelude.{◌≡◌, [], ◌∷◌, ◌+◌, ◌*◌, get_or};
 ghost use Rattle.std.proofs.lemmas.List.Edits.{sets};
 ghost use Rattle.numbers.specs.Bytes.{u16_at, u32_at, bytes_of, halves};

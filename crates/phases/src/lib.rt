@@ -1,4 +1,6 @@
 // The phase table of document 01, and the limits that a phase has by its order.
+#![tactic(auto)]
+
 ghost use Rattle.std.specs.Prelude.{◌≡◌, get_or};
 ghost use Rattle.phases.specs.Phases.{order_of, next_of, clutch_of, device_entries, phase_entries, device_limit, phase_limit, latest_take, earliest_ask, plain_delay, error_delay, unfinished};
 

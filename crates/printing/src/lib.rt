@@ -1,4 +1,5 @@
 // The parts of a line of the test program, written to standard output.
+#![tactic(auto)]
 ghost use Rattle.std.specs.Prelude.{◌≤◌, ◌<◌, length};
 
 use libc::STDOUT_FILENO;

@@ -1,4 +1,5 @@
 // The shift machine of document 01: one step on any state, any table, any code and any amount.
+#![tactic(auto)]
 ghost use Rattle.std.specs.Prelude.{◌≡◌, cond, ◌&&◌, ◌/◌, ◌%◌, leb};
 ghost use Rattle.checks.specs.Checks.{first};
 ghost use Rattle.shift.specs.declared.Reading.TheVariants.{Means, WrongCode, WrongAmount};
@@ -13,7 +14,7 @@ mod excess;
 mod guards;
 
 #[repr(C)]
-#[derive(Drop)]
+#[derive(Clone, Copy)]
 pub struct State {
     pub clock: u32,
     pub gear_box: u8,
@@ -26,7 +27,7 @@ pub struct State {
 }
 
 // The thirteen steps, in the order of their codes; a tick has its amount.
-#[derive(Drop)]
+#[derive(Clone, Copy)]
 pub enum Step {
     FromNeutral,
     GearToGear,
@@ -44,7 +45,7 @@ pub enum Step {
 }
 
 // What a code, a middle byte and an amount mean: a step, or refusal 5, or refusal 6.
-#[derive(Drop)]
+#[derive(Clone, Copy)]
 pub enum Reading {
     Means(Step),
     WrongCode,
@@ -53,7 +54,7 @@ pub enum Reading {
 
 // 0 and the state after the step, or the number that refuses it and the state that was given; the rule is 0 except with 4. The excess
 // is the milliseconds by which the step is too early or past the limit, with 9 to 13, and else 0.
-#[derive(Drop)]
+#[derive(Clone, Copy)]
 pub struct Answer {
     pub number: u8,
     pub rule: u8,

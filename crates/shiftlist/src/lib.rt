@@ -1,4 +1,5 @@
 // The list of a step file's shifts: built beside the file, and fetched from without it.
+#![tactic(auto)]
 ghost use Rattle.std.specs.Prelude.{◌≡◌, length};
 ghost use Rattle.shiftlist.specs.Lists.{listed_long, refused_by, built_of, buffer_after, shift_at, no_shift, fetch_of};
 
@@ -11,7 +12,7 @@ pub mod walk;
 // One shift: its first and last record, its kind (the request's code), 1 where a clutch was asked for, how it ended (0 open, 1 done,
 // 2 error), the clock at its request and its age at the last record.
 #[repr(C)]
-#[derive(Drop)]
+#[derive(Clone, Copy)]
 pub struct Shift {
     pub first: u16,
     pub last: u16,
@@ -24,7 +25,7 @@ pub struct Shift {
 
 // The list's length with number 0; or the number that refuses it, with the judge's own its rule, index and excess.
 #[repr(C)]
-#[derive(Drop)]
+#[derive(Clone, Copy)]
 pub struct Listed {
     pub number: u8,
     pub rule: u8,
@@ -63,7 +64,7 @@ impl Listed {
 
 // Number 0 and the entry; or the number that refuses it, and an entry of zeros.
 #[repr(C)]
-#[derive(Drop)]
+#[derive(Clone, Copy)]
 pub struct Fetched {
     pub number: u8,
     pub shift: Shift,

@@ -6,7 +6,7 @@ ghost use Rattle.shiftlist.specs.Walks.{clock_by, in_hand, is_request, stepped_b
 use crate::Shift;
 use trace::phase_after;
 
-#[derive(Drop)]
+#[derive(Clone, Copy)]
 pub struct Walk {
     pub clock: u32,
     pub phase: u8,

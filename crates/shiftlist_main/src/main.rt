@@ -1,5 +1,6 @@
 // The program `shiftlist`: reads a step file from standard input and writes the list of its shifts; of a refused file its line, to
 // standard error.
+#![tactic(auto)]
 use libc::{STDERR_FILENO, STDIN_FILENO, STDOUT_FILENO};
 
 fn main() {

@@ -1,4 +1,5 @@
 // The program `shifts`: reads a list of shifts from standard input and prints it as a table.
+#![tactic(auto)]
 use columns::Page;
 use libc::{STDERR_FILENO, STDIN_FILENO, STDOUT_FILENO};
 use shiftlist::Shift;

@@ -1,4 +1,5 @@
 // Step files: bytes to header, table and records, and back.
+#![tactic(auto)]
 ghost use Rattle.std.specs.Prelude.{◌≡◌, ◌+◌, ◌<◌, ◌≤◌, replicate};
 ghost use Rattle.std.proofs.lemmas.List.Edits.{sets};
 ghost use Rattle.checks.specs.Checks.{first};
@@ -14,7 +15,7 @@ use shift::{Reading, Step, refusal_of};
 pub mod write;
 
 // Refusal 1 to 4 of a file, or 0; the rule's number with 4, else 0.
-#[derive(Drop)]
+#[derive(Clone, Copy)]
 pub struct Refusal {
     pub number: u8,
     pub rule: u8,

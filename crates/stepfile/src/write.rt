@@ -11,14 +11,14 @@ use numbers::put;
 use shift::refusal_of;
 
 // The table to write, or the wish for none.
-#[derive(Drop)]
+#[derive(Clone, Copy)]
 pub enum Wish {
     Given(Table),
     NoTable,
 }
 
 // The file's length with number 0, or the number that refuses it: the rule with 4, the record's index with 5 and 6, else 0.
-#[derive(Drop)]
+#[derive(Clone, Copy)]
 pub struct Written {
     pub number: u8,
     pub rule: u8,
@@ -27,7 +27,7 @@ pub struct Written {
 }
 
 // The first record with 5 or 6 and its index; with number 0 there is none.
-#[derive(Drop)]
+#[derive(Clone, Copy)]
 pub struct Wrong {
     pub number: u8,
     pub index: usize,

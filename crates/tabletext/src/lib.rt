@@ -1,4 +1,5 @@
 // A limit table as text: what any text says, and a table laid as text into a lent buffer.
+#![tactic(auto)]
 ghost use Rattle.std.specs.Prelude.{◌≡◌, map, length, get_or, set};
 ghost use Rattle.checks.specs.Checks.{first};
 ghost use Rattle.limits.specs.Limits.{table_of};
@@ -14,7 +15,7 @@ pub mod lay;
 const NOT_GIVEN: u32 = 65536;
 
 // What a line says: nothing, a first word that is no name, or an entry's number and its value, or what stands for none.
-#[derive(Drop)]
+#[derive(Clone, Copy)]
 pub enum Said {
     Nothing,
     Unnamed,
@@ -23,14 +24,14 @@ pub enum Said {
 
 // What is wrong first: 1 no name, 2 a name twice, 3 no number, 4 a number above 65,535, 5 a name is missing; the line, from 1 on; and
 // the entry, but for 1.
-#[derive(Drop)]
+#[derive(Clone, Copy)]
 pub struct Fault {
     pub number: u8,
     pub line: usize,
     pub entry: usize,
 }
 
-#[derive(Drop)]
+#[derive(Clone, Copy)]
 pub enum Text {
     Says(Table),
     Wrong(Fault),

@@ -1,4 +1,5 @@
 // The words of a line of a table's text, and the number that a word is; which entry it names is in names.rt.
+#![tactic(auto)]
 ghost use Rattle.std.specs.Prelude.{◌≡◌, ◌+◌, ◌-◌, ◌*◌, ◌≤◌, length, take, drop};
 ghost use Rattle.tablewords.specs.Words.{blank, holds, leading, word, behind, digit, capped, number_of};
 
@@ -10,7 +11,7 @@ pub const ABOVE: u32 = 65536;
 pub const NONE: u32 = 65537;
 
 // Which bytes a run is made of: blanks, those of words, or those of a line.
-#[derive(Drop)]
+#[derive(Clone, Copy)]
 pub enum Class {
     Blank,
     Letter,
@@ -50,7 +51,7 @@ pub fn run(text: &[u8], class: Class) -> usize
 }
 
 // A part of a line, from a place up to another.
-#[derive(Drop)]
+#[derive(Clone, Copy)]
 struct Span {
     from: usize,
     to: usize,

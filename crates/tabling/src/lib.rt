@@ -1,4 +1,5 @@
 // What a case of a limit table is answered by: the line behind its word, of a table's text, of two tables, and of a table's rules.
+#![tactic(auto)]
 use limits::Table;
 use printing::{number, number8, number32};
 use tabletext::{Fault, Text};

@@ -1,4 +1,6 @@
 // Times against limits, without wrapping.
+#![tactic(auto)]
+
 ghost use Rattle.std.specs.Prelude.{◌≡◌, ◌+◌, ◌-◌, ltb};
 
 // A tick would move the clock past its 32 bits. The room that is left is asked for, which takes fewer instructions than the sum.

@@ -1,9 +1,10 @@
 // Joining: the parts of a file, as they arrive over a radio that drops and resumes, are put together in a buffer.
+#![tactic(auto)]
 ghost use Rattle.std.specs.Prelude.{◌≡◌, ◌≤◌, length, take, drop};
 ghost use Rattle.transfer.specs.Join.{agree, joined, buffer_after};
 
 // The number that refuses a part, 0 for one that is accepted, and how many bytes are held then.
-#[derive(Drop)]
+#[derive(Clone, Copy)]
 pub struct Joined {
     pub number: u8,
     pub held: usize,

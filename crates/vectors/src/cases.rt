@@ -12,7 +12,7 @@ const END: u8 = 0;
 const NO_CASE: u8 = 18;
 
 // A case's kind, 1 to 17, and the lengths of its fields; or that the input has ended, or that no case is there.
-#[derive(Drop)]
+#[derive(Clone, Copy)]
 struct Head {
     kind: u8,
     a: usize,

@@ -1,4 +1,5 @@
 // Judging a step file's bytes, and the line that says the verdict.
+#![tactic(auto)]
 ghost use Rattle.std.specs.Prelude.{◌≡◌, ℕ, ◌+◌, ◌*◌, ◌/◌, ◌%◌, ◌≤◌, ◌<◌, length, get_or};
 ghost use Rattle.checks.specs.Checks.{first};
 ghost use Rattle.limits.specs.declared.Table.{Table};
@@ -18,7 +19,7 @@ use shift::{Reading, State, Step};
 // Accepted, number 0, with the end state and the number of records; or refused with the number, the index of the refused record, how
 // far over it is and the state before it. With 1 to 4 the index is 0 and the state the start; the rule is 0 except with 4.
 #[repr(C)]
-#[derive(Drop)]
+#[derive(Clone, Copy)]
 pub struct Verdict {
     pub number: u8,
     pub rule: u8,

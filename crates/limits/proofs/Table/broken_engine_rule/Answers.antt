@@ -1,0 +1,18 @@
+-- `Table::broken_engine_rule` meets its contract: a return for each rule, and one where all are kept.
+-- Assumes nothing.
+use mathlib.Core.Path.{sym}
+use native.Mathlib.Omega.{arith}
+use Rattle.checks.specs.Checks.{numbered}
+use Rattle.checks.proofs.Tests.{tests}
+use Rattle.checks.proofs.Checks.{refused, holds→first}
+use Rattle.limits.specs.Rules.{engine_rules}
+use Rattle.limits.proofs.Table.broken_engine_rule.Goals as goal
+
+pub returns-then-wide-both_ways : goal.returns-then-wide-both_ways
+returns-then-wide-both_ways c = let t = c.args.self in sym (refused (numbered 2 (engine_rules t)) 0 (omega (arith, tests)))
+
+pub returns-then-wide-both_ways-2 : goal.returns-then-wide-both_ways-2
+returns-then-wide-both_ways-2 c = let t = c.args.self in sym (refused (numbered 2 (engine_rules t)) 1 (omega (arith, tests)))
+
+pub returns : goal.returns
+returns c = let t = c.args.self in sym (holds→first (numbered 2 (engine_rules t)) (omega (arith, tests)))

@@ -1,0 +1,31 @@
+-- `device_entry` meets its contract: each arm by its order, and past them there is no entry.
+-- Assumes nothing.
+use mathlib.Core.Path.{sym}
+use lib.ListN.{get_or-eq_default}
+use Rattle.checks.proofs.Ranges.{past-arms}
+use Rattle.phases.specs.Phases.{device_entries}
+use Rattle.phases.proofs.device_entry.Goals as goal
+
+pub returns-in-0 : goal.returns-in-0
+returns-in-0 c = rw c.in-0.is
+
+pub returns-in-1 : goal.returns-in-1
+returns-in-1 c = rw c.in-1.is
+
+pub returns-in-2 : goal.returns-in-2
+returns-in-2 c = rw c.in-2.is
+
+pub returns-in-3 : goal.returns-in-3
+returns-in-3 c = rw c.in-3.is
+
+pub returns-in-4 : goal.returns-in-4
+returns-in-4 c = rw c.in-4.is
+
+pub returns-in-5 : goal.returns-in-5
+returns-in-5 c = rw c.in-5.is
+
+pub returns-in-6 : goal.returns-in-6
+returns-in-6 c = rw c.in-6.is
+
+pub returns-in_default : goal.returns-in_default
+returns-in_default c = let order = c.args.order in sym (get_or-eq_default device_entries 22 {n = order} (past-arms 7 order c.in_default.rest))

@@ -1,0 +1,18 @@
+-- `earliest_ask` meets its contract: each arm by its order, and past them there is no entry.
+-- Assumes nothing.
+use Rattle.checks.proofs.Ranges.{past-arms}
+use Rattle.phases.specs.Phases.{de_entries}
+use Rattle.phases.proofs.PhaseLaws.{no-limit}
+use Rattle.phases.proofs.earliest_ask.Goals as goal
+
+pub returns-in-0 : goal.returns-in-0
+returns-in-0 c = rw c.in-0.is
+
+pub returns-in-1 : goal.returns-in-1
+returns-in-1 c = rw c.in-1.is
+
+pub returns-in-2 : goal.returns-in-2
+returns-in-2 c = rw c.in-2.is
+
+pub returns-in_default : goal.returns-in_default
+returns-in_default c = no-limit de_entries c.args.table c.args.order (past-arms 3 c.args.order c.in_default.rest)
