@@ -5,16 +5,16 @@ mod cases;
 mod fields;
 
 // Case after case until the input ends, or until 2^64 - 1 of them are answered.
-fn main() {
+fn main(rt: HostRuntime) {
+    let mut reader = rt.stdin();
+    let mut writer = rt.stdout();
     // The longest fields.
     let mut a = [0u8; 66000];
     let mut b = [0u8; 66000];
     let mut c = [0u8; 66000];
-    let mut left = u64::MAX;
-    while 0 < left {
-        if !cases::answer_next(&mut a, &mut b, &mut c) {
+    for _ in 0..u64::MAX {
+        if !cases::answer_next(&mut reader, &mut writer, &mut a, &mut b, &mut c) {
             return;
         }
-        left -= 1;
     }
 }
