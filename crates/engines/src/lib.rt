@@ -1,5 +1,6 @@
 // What a case of records for both engines is answered by: each from its start, up to its first number that is not 0.
 #![tactic(auto)]
+
 ghost use Rattle.std.specs.Prelude.{◌/◌, ◌<◌, length};
 
 use limits::Table;

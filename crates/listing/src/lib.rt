@@ -1,5 +1,6 @@
 // What a case of a list of shifts is answered by: the line behind its word, of a list that is built, fetched from or extended.
 #![tactic(auto)]
+
 use limits::Table;
 use printing::{number, number8, number16, number32, number64};
 use shift::State;
@@ -47,6 +48,9 @@ pub fn extend(
     table: Table,
     records: &[u8],
 ) {
-    print_listed(writer, shiftlist_extend::extend(list, held, state, count, table, records));
+    print_listed(
+        writer,
+        shiftlist_extend::extend(list, held, state, count, table, records),
+    );
     printing::bytes(writer, list);
 }

@@ -1,5 +1,6 @@
 // The parts of a line of the test program, written to a writer. What it does not take is left out.
 #![tactic(auto)]
+
 ghost use Rattle.std.specs.Prelude.{◌≤◌, ◌<◌, length};
 
 use limits::Table;

@@ -1,5 +1,6 @@
 // What a case of a limit table is answered by: the line behind its word, of a table's text, of two tables, and of a table's rules.
 #![tactic(auto)]
+
 use limits::Table;
 use printing::{number, number8, number32};
 use std::io::Write;
@@ -15,11 +16,14 @@ pub fn text(writer: &mut impl Write, text: &[u8]) {
 }
 
 fn print_said(writer: &mut impl Write, table: Table) {
-    print_fault(writer, Fault {
-        number: 0,
-        line: 0,
-        entry: 0,
-    });
+    print_fault(
+        writer,
+        Fault {
+            number: 0,
+            line: 0,
+            entry: 0,
+        },
+    );
     printing::table(writer, table);
 }
 

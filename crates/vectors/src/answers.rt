@@ -14,7 +14,10 @@ pub(crate) fn admit(writer: &mut impl Write, a: &[u8]) {
 }
 
 pub(crate) fn step(writer: &mut impl Write, a: &[u8]) {
-    print_answer(writer, state_in(a).step(table_at(a, 0), byte_at(a, 64), u32_at(a, 65)));
+    print_answer(
+        writer,
+        state_in(a).step(table_at(a, 0), byte_at(a, 64), u32_at(a, 65)),
+    );
 }
 
 pub(crate) fn advance(writer: &mut impl Write, a: &[u8]) {
@@ -22,7 +25,10 @@ pub(crate) fn advance(writer: &mut impl Write, a: &[u8]) {
     let table = table_at(a, 0);
     let code = byte_at(a, 64);
     let middle = byte_at(a, 65);
-    print_answer(writer, gateway::advanced(state, table, code, middle, byte_at(a, 66), byte_at(a, 67)));
+    print_answer(
+        writer,
+        gateway::advanced(state, table, code, middle, byte_at(a, 66), byte_at(a, 67)),
+    );
 }
 
 fn print_answer(writer: &mut impl Write, answer: Answer) {
@@ -71,7 +77,10 @@ pub(crate) fn write(writer: &mut impl Write, a: &[u8], codes: &[u8], out: &mut [
 {
     let mut amounts = [0u32; 16491];
     let count = read_amounts(a, &mut amounts);
-    print_written(writer, stepfile::write::write(wish_in(a), codes, &amounts[..count], out));
+    print_written(
+        writer,
+        stepfile::write::write(wish_in(a), codes, &amounts[..count], out),
+    );
     printing::bytes(writer, out);
 }
 
@@ -95,7 +104,10 @@ pub(crate) fn manual(writer: &mut impl Write, a: &[u8], records: &[u8]) {
 }
 
 pub(crate) fn block(writer: &mut impl Write, a: &[u8], records: &[u8]) {
-    print_verdict(writer, gateway::advanced_block(state_in(a), table_at(a, 0), records));
+    print_verdict(
+        writer,
+        gateway::advanced_block(state_in(a), table_at(a, 0), records),
+    );
 }
 
 pub(crate) fn list(writer: &mut impl Write, file: &[u8], out: &mut [u8]) {

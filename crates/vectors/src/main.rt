@@ -1,5 +1,6 @@
 // The test program: reads cases from standard input and prints the line of each, as docs/CORPUS.md says.
 #![tactic(auto)]
+
 mod answers;
 mod cases;
 mod fields;
