@@ -213,19 +213,15 @@ fn times(v: Variables) -> [u32; 34] {
 
 fn print_flags(writer: &mut impl Write, flags: &[bool; 64]) {
     let mut bytes = [0u8; 64];
-    let mut i: usize = 0;
-    while i < 64 {
-        bytes[i] = flags[i] as u8;
-        i += 1;
+    for (byte, flag) in bytes.iter_mut().zip(flags) {
+        *byte = *flag as u8;
     }
     printing::bytes(writer, &bytes);
 }
 
 fn print_times(writer: &mut impl Write, times: &[u32; 34]) {
-    let mut i: usize = 0;
-    while i < 34 {
-        number32(writer, times[i]);
-        i += 1;
+    for time in times {
+        number32(writer, *time);
     }
 }
 

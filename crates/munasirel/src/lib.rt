@@ -1,5 +1,6 @@
 // What a host in C calls: judging, the limit table, the line, joining, writing, the list of shifts, and advancing a state that the host keeps.
 #![tactic(auto)]
+
 ghost use Rattle.std.specs.Prelude.{◌≡◌, length};
 ghost use Rattle.limits.specs.Limits.{old_default, new_default, house};
 ghost use Rattle.limits.specs.Rules.{broken_rule};

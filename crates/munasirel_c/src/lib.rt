@@ -1,5 +1,6 @@
 // The archive that a host in C links: each function of `munasirel`, exported under its name with its contract.
 #![tactic(auto)]
+
 ghost use Rattle.std.specs.Prelude.{◌≡◌, length};
 ghost use Rattle.limits.specs.Limits.{old_default, new_default, house};
 ghost use Rattle.limits.specs.Rules.{broken_rule};

@@ -31,10 +31,8 @@ pub fn number8(writer: &mut impl Write, n: u8) {
 // The entries of a table.
 pub fn table(writer: &mut impl Write, table: Table) {
     let entries = table.entries();
-    let mut i: usize = 0;
-    while i < 22 {
-        number16(writer, entries[i]);
-        i += 1;
+    for entry in &entries {
+        number16(writer, *entry);
     }
 }
 
@@ -64,10 +62,8 @@ pub fn bytes(writer: &mut impl Write, bytes: &[u8]) {
 fn pairs(writer: &mut impl Write, bytes: &[u8]) {
     let mut text = [0u8; 4096];
     let mut count: usize = 0;
-    let mut i: usize = 0;
-    while i < bytes.len() {
-        count = put_pair(writer, &mut text, count, bytes[i]);
-        i += 1;
+    for byte in bytes {
+        count = put_pair(writer, &mut text, count, *byte);
     }
     write_pairs(writer, &text, count);
 }

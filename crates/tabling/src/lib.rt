@@ -37,10 +37,8 @@ fn print_fault(writer: &mut impl Write, fault: Fault) {
 pub fn tighter(writer: &mut impl Write, old: Table, new: Table) {
     number8(writer, admission::first_tighter(old, new));
     let mut flags = [0u8; 22];
-    let mut i: usize = 0;
-    while i < 22 {
-        flags[i] = flag(admission::is_tighter(old, new, i));
-        i += 1;
+    for (i, tighter) in flags.iter_mut().enumerate() {
+        *tighter = flag(admission::is_tighter(old, new, i));
     }
     printing::bytes(writer, &flags);
 }
@@ -60,10 +58,8 @@ pub fn print(writer: &mut impl Write, table: Table) {
 // The rules that a table breaks, and its route sums.
 pub fn rules(writer: &mut impl Write, table: Table) {
     let mut flags = [0u8; 16];
-    let mut i: usize = 0;
-    while i < 16 {
-        flags[i] = flag(admission::is_broken(table, i as u8 + 1));
-        i += 1;
+    for (rule, broken) in (1u8..).zip(flags.iter_mut()) {
+        *broken = flag(admission::is_broken(table, rule));
     }
     printing::bytes(writer, &flags);
     print_sums(writer, admission::sums(table));

@@ -1,11 +1,7 @@
--- `pairs` is safe: the loop's index stays within the bytes, and what is written out within the text.
+-- `pairs` is safe: what is written out stays within the text.
 -- Assumes nothing.
-use Prim.Native.Nat.{◌-◌, ◌≤◌}
-use lib.ListN.{length}
+use Rattle.std.proofs.Common.{◌≤◌}
 use Rattle.printing.proofs.pairs.Given as goal
 
-abbrev pub invariant-loop-i : goal.invariant-loop-i
-invariant-loop-i g l = (l.i ≤ length l.bytes) × (l.count ≤ 2048)
-
-abbrev pub decreases-loop-i : goal.decreases-loop-i
-decreases-loop-i g l = length l.bytes - l.i
+abbrev pub invariant-loop-byte : goal.invariant-loop-byte
+invariant-loop-byte g l = l.count ≤ 2048
