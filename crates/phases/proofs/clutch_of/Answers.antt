@@ -23,10 +23,10 @@ pub returns-in-17 : goal.returns-in-17
 returns-in-17 c = rw c.in-17.is
 
 pub returns-in_default-phase : goal.returns-in_default-phase
-returns-in_default-phase c = otherwise 0 clutch_of (17 ∷ 10 ∷ 6 ∷ 1 ∷ []) 0 22 (omega arith) _ zero-le c.if-phase-lt22.true c.in_default-phase.rest
+returns-in_default-phase c = otherwise 0 clutch_of (17 ∷ 10 ∷ 6 ∷ 1 ∷ []) 0 22 (omega arith) _ zero-le c.in-1-to-21.if-phase-lt22-own.true c.in_default-phase.in_default-phase-own.rest
 
 pub returns-in-22-to-23 : goal.returns-in-22-to-23
-returns-in-22-to-23 c = past-working (λ (r : Row). r.clutch) _ c.if-phase-lt22.false
+returns-in-22-to-23 c = past-working (λ (r : Row). r.clutch) _ c.in-22-to-23.if-phase-lt22-own.false
 
 pub returns-in_default : goal.returns-in_default
-returns-in_default c = past-working (λ (r : Row). r.clutch) _ c.if-phase-lt22.false
+returns-in_default c = past-working (λ (r : Row). r.clutch) _ c.in_default.if-phase-lt22-own.false

@@ -53,10 +53,10 @@ pub returns-in-14 : goal.returns-in-14
 returns-in-14 c = rw c.in-14.is
 
 pub returns-in_default-phase-2 : goal.returns-in_default-phase-2
-returns-in_default-phase-2 c = otherwise 0 next_of (14 ∷ 13 ∷ 12 ∷ 11 ∷ 10 ∷ 9 ∷ 8 ∷ 7 ∷ 6 ∷ 5 ∷ 4 ∷ 3 ∷ 2 ∷ 1 ∷ []) 1 14 (omega arith) _ c.if-phase-lt1.false c.if-phase-lt15.true c.in_default-phase-2.rest
+returns-in_default-phase-2 c = otherwise 0 next_of (14 ∷ 13 ∷ 12 ∷ 11 ∷ 10 ∷ 9 ∷ 8 ∷ 7 ∷ 6 ∷ 5 ∷ 4 ∷ 3 ∷ 2 ∷ 1 ∷ []) 1 14 (omega arith) _ c.in-1-to-14.if-phase-lt1-own.false c.in-1-to-14.if-phase-lt15-own.true c.in_default-phase-2.in_default-phase-2-own.rest
 
 pub returns-in-15 : goal.returns-in-15
-returns-in-15 c = otherwise done next_of [] 15 2 (omega arith) _ c.if-phase-lt15.false c.if-phase-lt17.true tt
+returns-in-15 c = otherwise done next_of [] 15 2 (omega arith) _ c.in-15.if-phase-lt15-own.false c.in-15.if-phase-lt17-own.true tt
 
 pub returns-in-17 : goal.returns-in-17
 returns-in-17 c = rw c.in-17.is
@@ -74,16 +74,16 @@ pub returns-in-21 : goal.returns-in-21
 returns-in-21 c = rw c.in-21.is
 
 pub returns-in_default-phase-3 : goal.returns-in_default-phase-3
-returns-in_default-phase-3 c = otherwise 0 next_of (21 ∷ 20 ∷ 19 ∷ 18 ∷ 17 ∷ []) 17 5 (omega arith) _ c.if-phase-lt17.false c.if-phase-lt22-2.true c.in_default-phase-3.rest
+returns-in_default-phase-3 c = otherwise 0 next_of (21 ∷ 20 ∷ 19 ∷ 18 ∷ 17 ∷ []) 17 5 (omega arith) _ c.in-17-to-21.if-phase-lt17-own.false c.in-17-to-21.if-phase-lt22-2-own.true c.in_default-phase-3.in_default-phase-3-own.rest
 
 pub returns-in_default-phase : goal.returns-in_default-phase
-returns-in_default-phase c = otherwise 0 next_of [] 0 1 (omega arith) _ zero-le c.if-phase-lt1.true tt
+returns-in_default-phase c = otherwise 0 next_of [] 0 1 (omega arith) _ zero-le c.in_default-phase.if-phase-lt1-own.true tt
 
 pub returns-in_default-phase-4 : goal.returns-in_default-phase-4
-returns-in_default-phase-4 c = past-working (λ (r : Row). r.next) _ c.if-phase-lt22-2.false
+returns-in_default-phase-4 c = past-working (λ (r : Row). r.next) _ c.in_default-phase.if-phase-lt22-2-own.false
 
 pub returns-in-22-to-23 : goal.returns-in-22-to-23
-returns-in-22-to-23 c = past-working (λ (r : Row). r.next) _ c.if-phase-lt22.false
+returns-in-22-to-23 c = past-working (λ (r : Row). r.next) _ c.in-22-to-23.if-phase-lt22-own.false
 
 pub returns-in_default : goal.returns-in_default
-returns-in_default c = past-working (λ (r : Row). r.next) _ c.if-phase-lt22.false
+returns-in_default c = past-working (λ (r : Row). r.next) _ c.in_default.if-phase-lt22-own.false

@@ -21,4 +21,4 @@ pub returns-in-4 : goal.returns-in-4
 returns-in-4 c = rw c.in-4.is
 
 pub returns-in_default : goal.returns-in_default
-returns-in_default c = no-limit plain_entries c.args.table c.args.order (past-arms 5 c.args.order c.in_default.rest)
+returns-in_default c = no-limit plain_entries c.args.table c.args.order (past-arms 5 c.args.order c.in_default.in_default-own.rest)
