@@ -1,5 +1,6 @@
 // Until when ticks are allowed: the last clock that a tick may reach. No tick moves it, so the judge works it out after the other steps.
 #![tactic(auto)]
+
 ghost use Rattle.std.specs.Prelude.{◌≡◌};
 ghost use Rattle.limits.specs.Limits.{table_of};
 ghost use Rattle.phases.specs.Phases.{order_of, device_limit};

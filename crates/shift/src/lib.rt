@@ -1,5 +1,6 @@
 // The shift machine of document 01: one step on any state, any table, any code and any amount.
 #![tactic(auto)]
+
 ghost use Rattle.std.specs.Prelude.{◌≡◌, cond, ◌&&◌, ◌/◌, ◌%◌, leb};
 ghost use Rattle.checks.specs.Checks.{first};
 ghost use Rattle.shift.specs.declared.Reading.TheVariants.{Means, WrongCode, WrongAmount};

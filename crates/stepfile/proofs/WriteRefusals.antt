@@ -2,7 +2,7 @@
 -- Assumes nothing.
 use mathlib.Core.Path.{◌≡◌, refl, sym, ap, subst, ◌∙◌}
 use mathlib.Core.Bool.{cond}
-use mathlib.Core.Logic.{◌⊎◌, inl, inr, ⊎_elim}
+use mathlib.Core.Logic.{inl, inr, ⊎_elim}
 use mathlib.Core.List.{List, [], ◌∷◌, ◌++◌}
 use Prim.Native.Nat.{ℕ, ◌+◌, ◌*◌, ◌≤◌, ◌<◌}
 use native.Mathlib.Omega.{arith}
@@ -85,7 +85,7 @@ module _ (w : Wish) (cs ns out : List ℕ) where
       (λ t.
       let z = eqb-true wrong.number 0 t in
       let none : (k : ℕ) → ¬ (k ≡ 0) → ¬ ((i : ℕ) × WrongAt cs ns k i) =
-      λ k n a. n (same cs ns a.0 k 0 a.1.wrong (f.all_read z a.0 a.1.in_List))
+      λ k n a. n (same cs ns a.0 k 0 a.1.wrong (f.all_read z a.0 a.1.in_list))
       in
       inr (none 5 (λ q. omega arith), inr (none 6 (λ q. omega arith), z)))
       (λ t.
