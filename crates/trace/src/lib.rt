@@ -1,5 +1,6 @@
 // The phase along accepted records, by their codes alone: no table, no stage, no guard.
 #![tactic(auto)]
+
 ghost use Rattle.std.specs.Prelude.{◌≡◌};
 ghost use Rattle.trace.specs.Traces.{phase_by};
 

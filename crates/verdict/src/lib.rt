@@ -1,5 +1,6 @@
 // Judging a step file's bytes, and the line that says the verdict.
 #![tactic(auto)]
+
 ghost use Rattle.std.specs.Prelude.{◌≡◌, ℕ, ◌+◌, ◌*◌, ◌/◌, ◌%◌, ◌≤◌, ◌<◌, length, get_or};
 ghost use Rattle.checks.specs.Checks.{first};
 ghost use Rattle.limits.specs.declared.Table.{Table};

@@ -2,10 +2,8 @@
 -- Assumes nothing.
 use mathlib.Core.Path.{ap}
 use Prim.Native.Nat.{ℕ}
-use borrow.Author.Rules.{rules}
 use Rattle.shift.specs.declared.State.{State}
-use Rattle.verdict.proofs.clocked.Statement.{statement}
-use Rattle.verdict.proofs.clocked.Tie as tie
+use Rattle.verdict.proofs.clocked.Goals as goal
 
 abbrev at-clock : State → ℕ → State
 at-clock s clock = record {
@@ -19,5 +17,5 @@ at-clock s clock = record {
   failed_phase = s.failed_phase;
 }
 
-pub clocked-spec : {M : Type 1} → statement M
-clocked-spec = tie.close (tie.spec (λ c. search rules) (λ c n e. ap (at-clock c.args.state) e))
+pub returns : goal.returns
+returns c = ap (at-clock c.args.state) e
