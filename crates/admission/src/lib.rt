@@ -1,6 +1,7 @@
 // What is told of a limit table before it goes out: which entries are tighter than in the old one, which rules it breaks, the sides of
 // these rules, and the four route sums.
 #![tactic(auto)]
+
 ghost use Rattle.std.specs.Prelude.{◌≡◌, true, get_or};
 ghost use Rattle.limits.specs.Rules.{delay_rules};
 ghost use Rattle.admission.specs.FirstTighter.{is_limit, is_wait, tighter_at, first_tighter};

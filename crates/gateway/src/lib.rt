@@ -1,5 +1,6 @@
 // One record of four bytes at a time, or a block of them, on a state that is kept between them.
 #![tactic(auto)]
+
 ghost use Rattle.std.specs.Prelude.{◌≡◌};
 ghost use Rattle.gateway.specs.Advancing.{advanced_on, block_on};
 

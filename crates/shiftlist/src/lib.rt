@@ -1,5 +1,6 @@
 // The list of a step file's shifts: built beside the file, and fetched from without it.
 #![tactic(auto)]
+
 ghost use Rattle.std.specs.Prelude.{◌≡◌, length};
 ghost use Rattle.shiftlist.specs.Lists.{listed_long, refused_by, built_of, buffer_after, shift_at, no_shift, fetch_of};
 

@@ -18,4 +18,4 @@ at-clock s clock = record {
 }
 
 pub returns : goal.returns
-returns c = ap (at-clock c.args.state) e
+returns c n e = ap (at-clock c.args.state) e

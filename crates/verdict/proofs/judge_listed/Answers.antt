@@ -1,8 +1,7 @@
 -- `judge_listed` meets its contract: before every record the loop stands where those accepted so far lead, and keeps its state's deadline.
 -- Assumes nothing.
-use Prim.Native.Nat.{◌+◌, ◌-◌, ◌/◌, ◌≤◌, ◌<◌}
+use Prim.Native.Nat.{◌+◌, ◌/◌, ◌≤◌, ◌<◌}
 use mathlib.Core.Path.{◌≡◌, refl, sym, ap, subst, ◌∙◌}
-use mathlib.Core.Logic.{⊎_elim}
 use native.Mathlib.Omega.{arith}
 use lib.ListN.{length}
 use Rattle.checks.specs.Checks.{first}
@@ -22,6 +21,7 @@ use Rattle.verdict.proofs.Judging.{all_left}
 use Rattle.verdict.proofs.Standing.{Stands, Kept, kept, stops, leads, no-step-stops, as_step, tick-leads, tick-stops, ends}
 use borrow.Enum.Refused.{opened}
 use Rattle.verdict.proofs.judge_listed.Goals as goal
+use Rattle.verdict.proofs.judge_listed.Goals.{then-enters, else-enters}
 
 pub loop-index-init : goal.loop-index-init
 loop-index-init c =
@@ -62,10 +62,9 @@ returns-then-number-ne0 c =
     let a = c.args in
     let t = a.table in
     let more = c.loop-index-test.true in
-    let x = c.reading-1.given in
-    let is_x = sym c.record_at-reading.ensures ∙ x.1 in
+    let is_x = sym c.record_at-reading.ensures ∙ c.in-Means.is in
     let answer = c.judged_step-answer in
-    let here = answer.ensures ∙ as_step t a.records.now a.begin _ l.state l.index l.invariant.0 more x.0.0 is_x in
+    let here = answer.ensures ∙ as_step t a.records.now a.begin _ l.state l.index l.invariant.0 more c.in-Means.x is_x in
     c.answered-then-number-ne0.ensures
     ∙ stops t a.records.now a.begin _ l.state l.index l.invariant.0 more answer.result here c.if-number-ne0.true
 
@@ -77,9 +76,8 @@ loop-index-preserved-in_default-x c =
     let s = l.state in
     let same = l.invariant.2 in
     let more = c.loop-index-test.true in
-    let given = c.reading-1.given in
-    let x = given.0.0 in
-    let is_x = sym c.record_at-reading.ensures ∙ given.1 in
+    let x = c.in-Means.x in
+    let is_x = sym c.record_at-reading.ensures ∙ c.in-Means.is in
     let answer = c.judged_step-answer in
     let next = answer.result.state in
     let none = c.if-number-ne0.false in
@@ -90,18 +88,18 @@ loop-index-preserved-in_default-x c =
     in
     let enters = c.enters.ensures in
     let end : c.if-enters.phase_end ≡ phase_end_of t next =
-    ⊎_elim
-    (λ o. o.3 ∙ o.1.ensures ∙ ap (λ es. phase_end_of (table_of es) next) same)
-    (λ o. o.1 ∙ l.invariant.1.end_is ∙ sym (ap (phase_end_of t) to ∙ (keeps t s x (sym enters ∙ o.0.left)).1))
-    c.if-enters.branch
+    elim c.if-enters.branch [
+      | then-enters w ↦ w.phase_end-is ∙ w.phase_end-phase_end-then-enters.ensures ∙ ap (λ es. phase_end_of (table_of es) next) same
+      | else-enters w ↦ w.phase_end-is ∙ l.invariant.1.end_is ∙ sym (ap (phase_end_of t) to ∙ (keeps t s x (sym enters ∙ w.if-enters.false)).1)
+    ]
     in
     let device : c.if-enters.device ≡ device_limit t (order_of next.phase) =
-    ⊎_elim
-    (λ o. o.4 ∙ o.2.ensures ∙ ap (λ es. device_limit (table_of es) (order_of next.phase)) same)
-    (λ o.
-    o.2 ∙ l.invariant.1.device-is
-    ∙ sym (ap (λ p. device_limit t (order_of p)) (ap (λ (q : State). q.phase) to ∙ (keeps t s x (sym enters ∙ o.0.left)).0)))
-    c.if-enters.branch
+    elim c.if-enters.branch [
+      | then-enters w ↦ w.device-is ∙ w.device_limit-device-then-enters.ensures ∙ ap (λ es. device_limit (table_of es) (order_of next.phase)) same
+      | else-enters w ↦
+          w.device-is ∙ l.invariant.1.device-is
+          ∙ sym (ap (λ p. device_limit t (order_of p)) (ap (λ (q : State). q.phase) to ∙ (keeps t s x (sym enters ∙ w.if-enters.false)).0))
+    ]
     in (
       leads t a.records.now a.begin _ s l.index l.invariant.0 more answer.result here none,
       kept t next c.if-enters.phase_end c.if-enters.device t.channel_dl c.deadline-deadline-in_default-x.result end device refl c.deadline-deadline-in_default-x.ensures,
@@ -115,11 +113,9 @@ returns-then-deadline-clock c =
     let t = a.table in
     let s = l.state in
     let more = c.loop-index-test.true in
-    let given = c.reading-1.given in
-    let tick = c.x-1.given in
-    let n = tick.0.0 in
+    let n = c.in-Tick.amount in
     let is-tick =
-    sym c.record_at-reading.ensures ∙ given.1 ∙ ap Means tick.1
+    sym c.record_at-reading.ensures ∙ c.in-Means.is ∙ ap Means c.in-Tick.is
     in
     let later = c.later-clock in
     let late : deadline t s < s.clock + n =
@@ -163,11 +159,9 @@ loop-index-preserved c =
     let s = l.state in
     let k = l.invariant.1 in
     let more = c.loop-index-test.true in
-    let given = c.reading-1.given in
-    let tick = c.x-1.given in
-    let n = tick.0.0 in
+    let n = c.in-Tick.amount in
     let is-tick =
-    sym c.record_at-reading.ensures ∙ given.1 ∙ ap Means tick.1
+    sym c.record_at-reading.ensures ∙ c.in-Means.is ∙ ap Means c.in-Tick.is
     in
     let later = c.later-clock in
     let until : s.clock + n ≤ deadline t s =

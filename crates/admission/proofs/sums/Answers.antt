@@ -7,30 +7,14 @@ use Rattle.limits.specs.declared.Table.{Table}
 use Rattle.limits.specs.Limits.{sum_f, sum_n, sum_g1, sum_g2}
 use Rattle.admission.specs.declared.RouteSums.{RouteSums}
 use Rattle.admission.specs.Broken.{sums_of}
-use Rattle.admission.proofs.sums.Statement.{statement}
-use Rattle.admission.proofs.sums.Tie as tie
+use Rattle.admission.proofs.sums.Goals as goal
 
 together :
     (t : Table) (f n g1 g2 : ℕ) → f ≡ sum_f t → n ≡ sum_n t → g1 ≡ sum_g1 t → g2 ≡ sum_g2 t
     → ◌≡◌ {A = RouteSums} (record { f = f; n = n; g1 = g1; g2 = g2 }) (sums_of t)
 together t f n g1 g2 p q r s = rw (p, q, r, s)
 
-returns : tie.Need-returns
+pub returns : goal.returns
 returns c =
-    let t = c.before.before.before.before.before.args.table in
+    let t = c.args.table in
     together t _ _ _ _ (omega arith) (omega arith) (omega arith) (omega arith)
-
-pub sums-spec : {M : Type 1} → statement M
-sums-spec =
-    tie.close
-    (tie.spec
-    (λ _ _. tt)
-    (λ _ _. tt)
-    (λ c. omega arith)
-    (λ _ _. tt)
-    (λ c. omega arith)
-    (λ _ _. tt)
-    (λ c. omega arith)
-    (λ _ _. tt)
-    (λ c. omega arith)
-    returns)

@@ -1,0 +1,59 @@
+-- `left_side` meets its contract: each arm by its rule, and past them there is no rule with a left side.
+-- Assumes nothing.
+use mathlib.Core.Path.{sym, ap, ◌∙◌}
+use lib.ListN.{get_or-eq_default}
+use Rattle.checks.proofs.Ranges.{past-arms}
+use Rattle.admission.specs.declared.RouteSums.{RouteSums}
+use Rattle.admission.specs.Broken.{left_sides, left_side}
+use Rattle.admission.proofs.left_side.Goals as goal
+
+pub returns-in-0 : goal.returns-in-0
+returns-in-0 c = rw c.in-0.is
+
+pub returns-in-1 : goal.returns-in-1
+returns-in-1 c = rw c.in-1.is
+
+pub returns-in-2 : goal.returns-in-2
+returns-in-2 c = c.both_ways.ensures.0 ∙ ap (left_side c.args.table) (sym c.in-2.is)
+
+pub returns-in-3 : goal.returns-in-3
+returns-in-3 c = c.both_ways-in-3.ensures.0 ∙ ap (left_side c.args.table) (sym c.in-3.is)
+
+pub returns-in-4 : goal.returns-in-4
+returns-in-4 c = c.both_ways-in-4.ensures.0 ∙ ap (left_side c.args.table) (sym c.in-4.is)
+
+pub returns-in-5 : goal.returns-in-5
+returns-in-5 c = c.both_ways-in-5.ensures.0 ∙ ap (left_side c.args.table) (sym c.in-5.is)
+
+pub returns-in-6 : goal.returns-in-6
+returns-in-6 c = c.both_ways-in-6.ensures.0 ∙ ap (left_side c.args.table) (sym c.in-6.is)
+
+pub returns-in-7 : goal.returns-in-7
+returns-in-7 c = c.both_ways-in-7.ensures.0 ∙ ap (left_side c.args.table) (sym c.in-7.is)
+
+pub returns-in-8 : goal.returns-in-8
+returns-in-8 c = c.wide.ensures.0 ∙ ap (left_side c.args.table) (sym c.in-8.is)
+
+pub returns-in-9 : goal.returns-in-9
+returns-in-9 c = c.wide-in-9.ensures.0 ∙ ap (left_side c.args.table) (sym c.in-9.is)
+
+pub returns-in-10 : goal.returns-in-10
+returns-in-10 c = c.wide-in-10.ensures.0 ∙ ap (left_side c.args.table) (sym c.in-10.is)
+
+pub returns-in-11 : goal.returns-in-11
+returns-in-11 c = c.wide-in-11.ensures.0 ∙ ap (left_side c.args.table) (sym c.in-11.is)
+
+pub returns-in-12 : goal.returns-in-12
+returns-in-12 c = ap (λ (s : RouteSums). s.f) c.sums.ensures ∙ ap (left_side c.args.table) (sym c.in-12.is)
+
+pub returns-in-13 : goal.returns-in-13
+returns-in-13 c = ap (λ (s : RouteSums). s.n) c.sums-in-13.ensures ∙ ap (left_side c.args.table) (sym c.in-13.is)
+
+pub returns-in-14 : goal.returns-in-14
+returns-in-14 c = ap (λ (s : RouteSums). s.g1) c.sums-in-14.ensures ∙ ap (left_side c.args.table) (sym c.in-14.is)
+
+pub returns-in-15 : goal.returns-in-15
+returns-in-15 c = ap (λ (s : RouteSums). s.g2) c.sums-in-15.ensures ∙ ap (left_side c.args.table) (sym c.in-15.is)
+
+pub returns-in_default : goal.returns-in_default
+returns-in_default c = let a = c.args in sym (get_or-eq_default (left_sides a.table) 0 {n = a.rule} (past-arms 16 a.rule c.in_default.in_default-own.rest))

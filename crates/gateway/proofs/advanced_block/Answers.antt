@@ -1,0 +1,25 @@
+-- `advanced_block` meets its contract: a table that breaks a rule refuses the first record, if there is one; else the records are judged.
+-- Assumes nothing.
+use mathlib.Core.Path.{sym, ap, ◌∙◌}
+use native.Mathlib.Omega.{arith}
+use Rattle.gateway.proofs.Blocks.{admitted, no_record, not-admitted}
+use Rattle.gateway.proofs.advanced_block.Goals as goal
+
+pub returns-then-records-lt4 : goal.returns-then-records-lt4
+returns-then-records-lt4 c =
+    let a = c.args in
+    no_record a.table a.state a.records.now (omega arith)
+
+pub returns-then-rule-ne0 : goal.returns-then-rule-ne0
+returns-then-rule-ne0 c =
+    let a = c.args in
+    let rule = c.broken_rule-rule in
+    ap (λ k. record { number = 4; rule = k; index = 0; excess = 0; state = a.state }) rule.ensures
+    ∙ not-admitted a.table a.state a.records.now (λ z. c.if-rule-ne0.true (rule.ensures ∙ z)) (omega arith)
+
+pub returns : goal.returns
+returns c =
+    let a = c.args in
+    let rule = c.broken_rule-rule in
+    c.judge_records.ensures
+    ∙ admitted a.table a.state a.records.now (sym rule.ensures ∙ c.if-rule-ne0.false)
