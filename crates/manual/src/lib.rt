@@ -1,5 +1,6 @@
 // Machine m9 of the manual: its variables under their own names, an event, and the comparisons that events share.
 #![tactic(auto)]
+
 ghost use Rattle.std.specs.Prelude.{◌≡◌, cond, ◌+◌, ◌-◌, leb};
 ghost use Rattle.manual.specs.Variables.{initialisation};
 ghost use Rattle.manual.specs.Events.{or_else};

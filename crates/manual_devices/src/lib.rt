@@ -1,5 +1,6 @@
 // Machine m9: the three requests, engine, clutch and gear, and FINAL: a function for each event, with the manual's labels; and reset.
 #![tactic(auto)]
+
 ghost use Rattle.std.specs.Prelude.{◌≡◌};
 ghost use Rattle.manual.specs.Requests.{RequestFromNeu, RequestNoNeu, RequestToNeu};
 ghost use Rattle.manual.specs.Devices.{Engine_Request_SyncSpeed, Engine_SyncSpeed, Engine_WaitForSyncClutch, Engine_Request_ZeroTorque, Engine_ZeroTorque, Engine_WaitForZeroClutch, Clutch_Request_Open, Clutch_Open, Error_Clutch_Open, Clutch_Request_Close, Clutch_Close, Error_Clutch_Close, Gear_Request_Release, Gear_Release, Error_Gear_Release, Gear_Request_Set, Gear_Set, Error_Gear_Set};

@@ -1,5 +1,6 @@
 // The thirteen steps on the variables of machine m9: of the events that are a step's, the first that is enabled.
 #![tactic(auto)]
+
 ghost use Rattle.std.specs.Prelude.{◌≡◌, cond, [], ◌∷◌};
 ghost use Rattle.shift.specs.declared.Reading.TheVariants.{Means};
 ghost use Rattle.manual.specs.Events.{answered, exceeded, first_of};

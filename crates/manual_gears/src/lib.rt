@@ -1,5 +1,6 @@
 // Machine m9: scenario 2, gear to gear: a function for each event, with the manual's labels.
 #![tactic(auto)]
+
 ghost use Rattle.std.specs.Prelude.{◌≡◌};
 ghost use Rattle.manual.specs.GearToGear.{NoNeu_ZeroTorque, NoNeu_RequestOpenClutch_Releasing, NoNeu_OpenClutch_Releasing, Error_NoNeu_OpenClutch_Releasing, NoNeu_Release_NoClutch, Error_NoNeu_Release_NoClutch, NoNeu_Release_Clutch, Error_NoNeu_Release_Clutch, NoNeu_SyncSpeed, NoNeu_RequestOpenClutch_Setting, NoNeu_OpenClutch_Setting, Error_NoNeu_OpenClutch_Setting, NoNeu_SetGear_NoClutch, Error_NoNeu_SetGear_NoClutch, NoNeu_SetGear_ReleasingClutch, Error_NoNeu_SetGear_ReleasingClutch, NoNeu_SetGear_SettingClutch, Error_NoNeu_SetGear_SettingClutch, NoNeu_CloseClutch_Setting, Error_NoNeu_CloseClutch_Setting, NoNeu_CloseClutch_Releasing, Error_NoNeu_CloseClutch_Releasing};
 

@@ -1,5 +1,6 @@
 // Machine m9: scenarios 1 and 3, from neutral and to neutral: a function for each event, with the manual's labels.
 #![tactic(auto)]
+
 ghost use Rattle.std.specs.Prelude.{◌≡◌};
 ghost use Rattle.manual.specs.FromNeutral.{FromNeu_SyncSpeed, FromNeu_RequestOpenClutch, FromNeu_OpenClutch, Error_FromNeu_OpenClutch, FromNeu_SetGear_NoClutch, Error_FromNeu_SetGear_NoClutch, FromNeu_SetGear_Clutch, Error_FromNeu_SetGear_Clutch, FromNeu_CloseClutch, Error_FromNeu_CloseClutch};
 ghost use Rattle.manual.specs.ToNeutral.{ToNeu_ZeroTorque, ToNeu_RequestOpenClutch, ToNeu_OpenClutch, Error_ToNeu_OpenClutch, ToNeu_Release_NoClutch, Error_ToNeu_Release_NoClutch, ToNeu_Release_Clutch, Error_ToNeu_Release_Clutch, ToNeu_CloseClutch, Error_ToNeu_CloseClutch};

@@ -1,5 +1,6 @@
 // What the manual's variables say in our terms.
 #![tactic(auto)]
+
 ghost use Rattle.std.specs.Prelude.{◌≡◌};
 ghost use Rattle.manual_reading.specs.Reading.{or_phase, outside, from_neutral, gear_to_gear, to_neutral, stage_by, stage_of, box_of, reading};
 

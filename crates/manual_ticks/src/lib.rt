@@ -1,5 +1,6 @@
 // Machine m9: Tick_Tock, its guards in the manual's order and under its labels.
 #![tactic(auto)]
+
 ghost use Rattle.std.specs.Prelude.{◌≡◌, not, ◌&&◌};
 ghost use Rattle.manual.specs.Answers.{moved};
 ghost use Rattle.manual.specs.Ticks.{past, past_else, first_past, phase_limits, stage_limits};

@@ -1,5 +1,6 @@
 // Extending the list of a file's shifts by records that were appended to the file, without a step through the old ones.
 #![tactic(auto)]
+
 ghost use Rattle.std.specs.Prelude.{◌≡◌, cond, ◌-◌, ◌≤◌, eqb, length};
 ghost use Rattle.checks.specs.Checks.{first};
 ghost use Rattle.numbers.specs.Bytes.{u32_at};

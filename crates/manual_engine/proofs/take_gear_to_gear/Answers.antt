@@ -1,0 +1,21 @@
+-- `take_gear_to_gear` meets its contract: by what its calls ensure.
+-- Assumes nothing.
+use mathlib.Core.Path.{◌∙◌}
+use Rattle.manual_engine.proofs.ChainLaws.{◌then◌}
+use Rattle.manual_engine.proofs.take_gear_to_gear.Goals as goal
+
+pub returns : goal.returns
+returns c =
+    c.first_of_6-2.ensures
+    ∙ (c.NoNeu_ZeroTorque.ensures
+    then c.NoNeu_OpenClutch_Releasing.ensures
+    then c.NoNeu_Release_NoClutch.ensures
+    then c.NoNeu_Release_Clutch.ensures
+    then c.NoNeu_SyncSpeed.ensures
+    then c.first_of_6.ensures
+    ∙ (c.NoNeu_OpenClutch_Setting.ensures
+    then c.NoNeu_SetGear_NoClutch.ensures
+    then c.NoNeu_SetGear_ReleasingClutch.ensures
+    then c.NoNeu_SetGear_SettingClutch.ensures
+    then c.NoNeu_CloseClutch_Setting.ensures
+    then c.NoNeu_CloseClutch_Releasing.ensures))
