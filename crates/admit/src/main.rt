@@ -1,10 +1,11 @@
 // The program `admit`: prints whether the limit table that standard input gives is admitted, and else each way in which it breaks a
 // rule; then what the routes leave of ChangeDL.
 #![tactic(auto)]
+
 use columns::Page;
 use desk::Given;
-use libc::{STDERR_FILENO, STDIN_FILENO};
 use limits::Table;
+use std::io::{Stderr, Stdout};
 
 mod rules;
 
@@ -17,24 +18,24 @@ const SUM: u8 = 7;
 
 const LEFT: u8 = 20;
 
-fn main() {
-    let given = desk::read(STDIN_FILENO);
+fn main(rt: HostRuntime) {
+    let given = desk::read(&mut rt.stdin(), rt.stdout());
     match given {
-        Given::One(table) => tell(report(table)),
+        Given::One(table) => tell(rt.stderr(), report(rt.stdout(), table)),
         Given::Nothing => {}
     }
 }
 
-fn tell(written: bool) {
+fn tell(err: Stderr, written: bool) {
     if !written {
-        io::write_all(STDERR_FILENO, b"admit: the report could not be written\n");
+        let _ = err.write_all(b"admit: the report could not be written\n");
     }
 }
 
 // Prints the report of a table, and answers whether it could be written.
-fn report(table: Table) -> bool {
+fn report(out: Stdout, table: Table) -> bool {
     let mut text = [0u8; 4096];
-    let page = admitted(&mut text, Page::blank(), table);
+    let page = admitted(&mut text, Page::blank(out), table);
     let page = routes(&mut text, page, table);
     page.close(&mut text)
 }

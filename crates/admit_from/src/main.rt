@@ -1,68 +1,69 @@
 // The program `admit_from`: compares the limit table that standard input gives with an older one, on file descriptor 3, and prints
 // where it is tighter.
 #![tactic(auto)]
+
 use columns::Page;
 use desk::Given;
-use libc::{STDERR_FILENO, STDIN_FILENO, STDOUT_FILENO};
 use limits::{Table, entry_at};
+use std::io::{Stderr, Stdout};
+use std::rt::Files;
 
-// The descriptor of the older table.
-const OLD_FILENO: i32 = 3;
+// The name under which a program finds its own descriptor 3, from which it reads the older table.
+const OLD: &str = "/proc/self/fd/3";
 
 // The width of the columns of limits.
 const LIMIT: u8 = 5;
 
-fn main() {
-    let new = desk::read(STDIN_FILENO);
+fn main(rt: HostRuntime) {
+    let new = desk::read(&mut rt.stdin(), rt.stdout());
     match new {
-        Given::One(table) => from_old(table),
+        Given::One(table) => from_old(&rt, rt.stdout(), rt.stderr(), table),
         Given::Nothing => {}
     }
 }
 
-fn from_old(new: Table) {
-    let old = desk::read(OLD_FILENO);
+fn from_old<R: Files>(files: &R, out: Stdout, err: Stderr, new: Table) {
+    let old = desk::read_file(files, OLD, out);
     match old {
-        Given::One(table) => compare(table, new),
+        Given::One(table) => compare(out, err, table, new),
         Given::Nothing => {}
     }
 }
 
-fn compare(old: Table, new: Table) {
+fn compare(out: Stdout, err: Stderr, old: Table, new: Table) {
     if old.broken_rule() != 0 {
-        say(b"the old table is not admitted\n");
+        say(out, err, b"the old table is not admitted\n");
         return;
     }
     if new.broken_rule() != 0 {
-        say(b"the new table is not admitted\n");
+        say(out, err, b"the new table is not admitted\n");
         return;
     }
     if admission::first_tighter(old, new) == 22 {
         say(
+            out,
+            err,
             b"nowhere tighter: every list of steps accepted under the old table is accepted under the new one, with the same end\n",
         );
         return;
     }
-    tell(tighter(old, new));
+    tell(err, tighter(out, old, new));
 }
 
-fn say(words: &[u8]) {
-    tell(io::write_all(STDOUT_FILENO, words));
+fn say(out: Stdout, err: Stderr, words: &[u8]) {
+    tell(err, out.write_all(words).is_ok());
 }
 
-fn tell(written: bool) {
+fn tell(err: Stderr, written: bool) {
     if !written {
-        io::write_all(
-            STDERR_FILENO,
-            b"admit_from: the comparison could not be written\n",
-        );
+        let _ = err.write_all(b"admit_from: the comparison could not be written\n");
     }
 }
 
 // Prints the table of the entries that are tighter, and answers whether it could be written.
-fn tighter(old: Table, new: Table) -> bool {
+fn tighter(out: Stdout, old: Table, new: Table) -> bool {
     let mut text = [0u8; 4096];
-    let mut page = head(&mut text, Page::blank());
+    let mut page = head(&mut text, Page::blank(out));
     let mut entry: usize = 0;
     while entry < 22 {
         if admission::is_tighter(old, new, entry) {

@@ -1,14 +1,16 @@
 // A page for people: words and numbers padded to the width of their column, and words between, in a text that is written to standard
 // output whenever it is full.
 #![tactic(auto)]
+
 ghost use Rattle.std.specs.Prelude.{◌≡◌, ◌-◌, ◌≤◌, ◌<◌, length};
 
-use libc::STDOUT_FILENO;
+use std::io::Stdout;
 
-// A page as far as it is laid: the bytes of the text that are in use, the spaces that a further cell of the row has before it, and
-// whether a part could not be written.
+// A page as far as it is laid: where it is written, the bytes of the text that are in use, the spaces that a further cell of the row
+// has before it, and whether a part could not be written.
 #[derive(Clone, Copy)]
 pub struct Page {
+    out: Stdout,
     used: usize,
     owed: usize,
     failed: bool,
@@ -16,8 +18,9 @@ pub struct Page {
 
 impl Page {
     // A page without a row.
-    pub fn blank() -> Page {
+    pub fn blank(out: Stdout) -> Page {
         Page {
+            out,
             used: 0,
             owed: 0,
             failed: false,
@@ -75,11 +78,12 @@ impl Page {
     // Writes what is left, and answers whether the whole page was written.
     pub fn close(self, text: &mut [u8; 4096]) -> bool {
         let page = self.room(text);
-        !page.failed && write(text, page.used)
+        !page.failed && write(page.out, text, page.used)
     }
 
     fn owing(self, owed: usize) -> Page {
         Page {
+            out: self.out,
             used: self.used,
             owed,
             failed: self.failed,
@@ -120,6 +124,7 @@ impl Page {
         let used = page.used;
         text[used] = byte;
         Page {
+            out: page.out,
             used: used + 1,
             owed: page.owed,
             failed: page.failed,
@@ -133,8 +138,9 @@ impl Page {
         if self.used < 4096 {
             return self;
         }
-        let failed = self.failed || !io::write_all(STDOUT_FILENO, text);
+        let failed = self.failed || !write(self.out, text, 4096);
         Page {
+            out: self.out,
             used: 0,
             owed: self.owed,
             failed,
@@ -142,11 +148,11 @@ impl Page {
     }
 }
 
-// Writes the first bytes of a text.
-fn write(text: &[u8], count: usize) -> bool
+// Writes the first bytes of a text, and answers whether it could.
+fn write(out: Stdout, text: &[u8], count: usize) -> bool
     requires { count ≤ length text.now }
 {
-    io::write_all(STDOUT_FILENO, &text[..count])
+    out.write_all(&text[..count]).is_ok()
 }
 
 // How many spaces fill a column of this width beside so many bytes.

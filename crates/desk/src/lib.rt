@@ -1,8 +1,12 @@
-// The desk's reading: the limit table that a file descriptor gives, as a text or in a step file; else what is wrong, as one line on
-// standard output.
+// The desk's reading: the limit table that a reader gives, as a text or in a step file; else what is wrong, as one line on standard
+// output.
 #![tactic(auto)]
+
 use columns::Page;
 use limits::Table;
+use std::fs;
+use std::io::{Read, Stdout};
+use std::rt::Files;
 use tabletext::{Fault, Text};
 
 // The table that was given, or none.
@@ -12,22 +16,35 @@ pub enum Given {
     Nothing,
 }
 
-// What a file descriptor gives; where it is no table, that is said.
-pub fn read(fd: i32) -> Given {
+// What a reader gives; where it is no table, that is said.
+pub fn read<R: Read>(reader: &mut R, out: Stdout) -> Given {
     // One byte longer than the longest text and the longest good step file.
     let mut bytes = [0u8; 65537];
-    let input = input::read_all(fd, &mut bytes);
+    let input = input::read_all(reader, &mut bytes);
     if input.failed {
-        return nothing(b"it can not be read");
+        return unread(out);
     }
     let length = input.length;
-    given_by(&bytes[..length])
+    given_by(out, &bytes[..length])
+}
+
+// What the file of a name gives; one that can not be opened can not be read.
+pub fn read_file<R: Files>(files: &R, name: &str, out: Stdout) -> Given {
+    let opened = fs::open(files, name);
+    match opened {
+        Ok(mut file) => read(&mut file, out),
+        Err(_) => unread(out),
+    }
+}
+
+fn unread(out: Stdout) -> Given {
+    nothing(out, b"it can not be read")
 }
 
 // A line that says why there is no table.
-fn nothing(words: &[u8]) -> Given {
+fn nothing(out: Stdout, words: &[u8]) -> Given {
     let mut text = [0u8; 4096];
-    let page = Page::blank().words(&mut text, words);
+    let page = Page::blank(out).words(&mut text, words);
     said(&mut text, page)
 }
 
@@ -37,39 +54,45 @@ fn said(text: &mut [u8; 4096], page: Page) -> Given {
 }
 
 // What bytes give: those of a step file begin with 12 and 0, which no text that says a table does.
-fn given_by(bytes: &[u8]) -> Given {
+fn given_by(out: Stdout, bytes: &[u8]) -> Given {
     if (2 <= bytes.len()) & (numbers::u16_at(bytes, 0) == 12) {
-        return by_steps(bytes);
+        return by_steps(out, bytes);
     }
     if 65536 < bytes.len() {
-        return nothing(b"the text is longer than 65536 bytes");
+        return nothing(out, b"the text is longer than 65536 bytes");
     }
-    by_text(bytes)
+    by_text(out, bytes)
 }
 
 // The table of a step file that is good, or refused with 4.
-fn by_steps(file: &[u8]) -> Given {
+fn by_steps(out: Stdout, file: &[u8]) -> Given {
     let number = stepfile::refused(file).number;
     match number {
-        1 => nothing(b"the step file is refused with 1: it has fewer than 12 bytes"),
-        2 => nothing(b"the step file is refused with 2: a header field, or too many records"),
-        3 => nothing(b"the step file is refused with 3: its length"),
+        1 => nothing(
+            out,
+            b"the step file is refused with 1: it has fewer than 12 bytes",
+        ),
+        2 => nothing(
+            out,
+            b"the step file is refused with 2: a header field, or too many records",
+        ),
+        3 => nothing(out, b"the step file is refused with 3: its length"),
         _ => Given::One(stepfile::table(file)),
     }
 }
 
-fn by_text(text: &[u8]) -> Given {
+fn by_text(out: Stdout, text: &[u8]) -> Given {
     let answer = tabletext::read(text);
     match answer {
         Text::Says(table) => Given::One(table),
-        Text::Wrong(fault) => wrong(fault),
+        Text::Wrong(fault) => wrong(out, fault),
     }
 }
 
 // What is wrong with a text.
-fn wrong(fault: Fault) -> Given {
+fn wrong(out: Stdout, fault: Fault) -> Given {
     let mut text = [0u8; 4096];
-    let page = Page::blank().words(&mut text, b"line ");
+    let page = Page::blank(out).words(&mut text, b"line ");
     let page = page
         .figure(&mut text, fault.line as u64)
         .words(&mut text, b": ");

@@ -1,5 +1,6 @@
 // What a case of records for both engines is answered by: each from its start, up to its first number that is not 0.
 #![tactic(auto)]
+
 ghost use Rattle.std.specs.Prelude.{◌/◌, ◌<◌, length};
 
 use limits::Table;
@@ -7,11 +8,12 @@ use manual::{Moved, Variables};
 use manual_reading::Read;
 use printing::{number, number8, number32, number64};
 use shift::{Answer, State};
+use std::io::Write;
 
 // The line of a table and records, behind its word: of the manual's engine, then of ours.
-pub fn print(table: Table, records: &[u8]) {
-    print_manual(table, records);
-    print_ours(table, records);
+pub fn print(writer: &mut impl Write, table: Table, records: &[u8]) {
+    print_manual(writer, table, records);
+    print_ours(writer, table, records);
 }
 
 // A record's four bytes.
@@ -42,7 +44,7 @@ fn amount_of(low: u8, high: u8) -> u32 {
 }
 
 // The manual's engine, from INITIALISATION.
-fn print_manual(table: Table, records: &[u8]) {
+fn print_manual(writer: &mut impl Write, table: Table, records: &[u8]) {
     let mut moved = Moved {
         number: 0,
         rule: 0,
@@ -59,18 +61,18 @@ fn print_manual(table: Table, records: &[u8]) {
         }
         accepted += 1;
     }
-    print_end(moved.number, moved.rule, accepted, moved.excess);
-    print_variables(moved.variables);
+    print_end(writer, moved.number, moved.rule, accepted, moved.excess);
+    print_variables(writer, moved.variables);
 }
 
-fn print_variables(v: Variables) {
-    print_flags(&flags(v));
-    print_times(&times(v));
-    print_read(manual_reading::reading(v));
+fn print_variables(writer: &mut impl Write, v: Variables) {
+    print_flags(writer, &flags(v));
+    print_times(writer, &times(v));
+    print_read(writer, manual_reading::reading(v));
 }
 
 // Our engine, from its start.
-fn print_ours(table: Table, records: &[u8]) {
+fn print_ours(writer: &mut impl Write, table: Table, records: &[u8]) {
     let mut answer = Answer {
         number: 0,
         rule: 0,
@@ -87,16 +89,16 @@ fn print_ours(table: Table, records: &[u8]) {
         }
         accepted += 1;
     }
-    print_end(answer.number, answer.rule, accepted, answer.excess);
-    printing::state(answer.state);
+    print_end(writer, answer.number, answer.rule, accepted, answer.excess);
+    printing::state(writer, answer.state);
 }
 
 // The last number, its rule, how many records were accepted, and the last excess.
-fn print_end(last: u8, rule: u8, accepted: usize, excess: u64) {
-    number8(last);
-    number8(rule);
-    number(accepted);
-    number64(excess);
+fn print_end(writer: &mut impl Write, last: u8, rule: u8, accepted: usize, excess: u64) {
+    number8(writer, last);
+    number8(writer, rule);
+    number(writer, accepted);
+    number64(writer, excess);
 }
 
 // The variables of type BOOL.
@@ -209,30 +211,30 @@ fn times(v: Variables) -> [u32; 34] {
     ]
 }
 
-fn print_flags(flags: &[bool; 64]) {
+fn print_flags(writer: &mut impl Write, flags: &[bool; 64]) {
     let mut bytes = [0u8; 64];
     let mut i: usize = 0;
     while i < 64 {
         bytes[i] = flags[i] as u8;
         i += 1;
     }
-    printing::bytes(&bytes);
+    printing::bytes(writer, &bytes);
 }
 
-fn print_times(times: &[u32; 34]) {
+fn print_times(writer: &mut impl Write, times: &[u32; 34]) {
     let mut i: usize = 0;
     while i < 34 {
-        number32(times[i]);
+        number32(writer, times[i]);
         i += 1;
     }
 }
 
-fn print_read(read: Read) {
-    number32(read.clock);
-    number8(read.gear_box);
-    number8(read.phase);
-    number8(read.stage);
-    number32(read.phase_time);
-    number32(read.stage_time);
-    number32(read.request_time);
+fn print_read(writer: &mut impl Write, read: Read) {
+    number32(writer, read.clock);
+    number8(writer, read.gear_box);
+    number8(writer, read.phase);
+    number8(writer, read.stage);
+    number32(writer, read.phase_time);
+    number32(writer, read.stage_time);
+    number32(writer, read.request_time);
 }

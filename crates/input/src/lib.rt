@@ -1,6 +1,10 @@
-// Reading a file descriptor to the end, in pieces of any size.
+// Reading to the end of a reader, in pieces of any size.
 #![tactic(auto)]
-ghost use Rattle.std.specs.Prelude.{◌+◌, ◌≤◌, length};
+
+ghost use Rattle.std.specs.Prelude.{◌≡◌, ◌+◌, ◌≤◌, ◌<◌, false, take, drop, length};
+ghost use Rattle.std.specs.Io.KnownBytes.{Consumes, IsAtEnd};
+
+use std::io::Read;
 
 // How many bytes were read, and whether a read failed.
 #[derive(Clone, Copy)]
@@ -9,13 +13,15 @@ pub struct Input {
     pub length: usize,
 }
 
-// Reads until the buffer is full, the input ends or a read fails.
-pub fn read_all(fd: i32, buffer: &mut [u8]) -> Input
-    ensures { result.length ≤ length buffer.new }
+// Reads until the buffer is full, the input ends or a read fails. What is said of the bytes holds of a reader whose bytes are known.
+pub fn read_all<R: Read>(reader: &mut R, buffer: &mut [u8]) -> Input
+    ensures within { result.length ≤ length buffer.new }
+    ensures bytes { Consumes (R.remaining reader.old) (R.remaining reader.new) (take result.length buffer.new) }
+    ensures end { result.failed ≡ false → result.length < length buffer.new → IsAtEnd (R.remaining reader.new) }
 {
     let mut done: usize = 0;
     while done < buffer.len() {
-        let piece = read_some(fd, buffer, done);
+        let piece = read_some(reader, buffer, done);
         let failed = piece.failed;
         let count = piece.length;
         if count == 0 {
@@ -33,19 +39,21 @@ pub fn read_all(fd: i32, buffer: &mut [u8]) -> Input
 }
 
 // One read into the buffer behind the bytes that are there; none are read at the end of the input and where it fails.
-fn read_some(fd: i32, buffer: &mut [u8], done: usize) -> Input
+fn read_some<R: Read>(reader: &mut R, buffer: &mut [u8], done: usize) -> Input
     requires { done ≤ length buffer.old }
-    ensures { done + result.length ≤ length buffer.new }
+    ensures within { done + result.length ≤ length buffer.new }
+    ensures kept { take done buffer.new ≡ take done buffer.old }
+    ensures bytes { Consumes (R.remaining reader.old) (R.remaining reader.new) (take result.length (drop done buffer.new)) }
+    ensures end { result.failed ≡ false → result.length ≡ 0 → done < length buffer.new → IsAtEnd (R.remaining reader.new) }
 {
-    let got = libc::read(fd, &mut buffer[done..]);
-    if got < 0 {
-        return Input {
+    match reader.read(&mut buffer[done..]) {
+        Ok(length) => Input {
+            failed: false,
+            length,
+        },
+        Err(_) => Input {
             failed: true,
             length: 0,
-        };
-    }
-    Input {
-        failed: false,
-        length: io::count(got, &buffer[done..]),
+        },
     }
 }

@@ -1,43 +1,46 @@
 // What a case of a list of shifts is answered by: the line behind its word, of a list that is built, fetched from or extended.
 #![tactic(auto)]
+
 use limits::Table;
 use printing::{number, number8, number16, number32, number64};
 use shift::State;
 use shiftlist::{Fetched, Listed};
+use std::io::Write;
 
 // The list of a file.
-pub fn build(file: &[u8], out: &mut [u8]) {
-    print_listed(shiftlist::build(file, out));
-    printing::bytes(out);
+pub fn build(writer: &mut impl Write, file: &[u8], out: &mut [u8]) {
+    print_listed(writer, shiftlist::build(file, out));
+    printing::bytes(writer, out);
 }
 
-fn print_listed(listed: Listed) {
-    number8(listed.number);
-    number8(listed.rule);
-    number(listed.index);
-    number64(listed.excess);
-    number(listed.length);
+fn print_listed(writer: &mut impl Write, listed: Listed) {
+    number8(writer, listed.number);
+    number8(writer, listed.rule);
+    number(writer, listed.index);
+    number64(writer, listed.excess);
+    number(writer, listed.length);
 }
 
 // The entry of a list with this number.
-pub fn fetch(list: &[u8], number: usize) {
-    print_fetched(shiftlist::fetch(list, number));
+pub fn fetch(writer: &mut impl Write, list: &[u8], number: usize) {
+    print_fetched(writer, shiftlist::fetch(list, number));
 }
 
-fn print_fetched(fetched: Fetched) {
+fn print_fetched(writer: &mut impl Write, fetched: Fetched) {
     let shift = fetched.shift;
-    number8(fetched.number);
-    number16(shift.first);
-    number16(shift.last);
-    number8(shift.kind);
-    number8(shift.route);
-    number8(shift.end);
-    number32(shift.request_time);
-    number32(shift.age);
+    number8(writer, fetched.number);
+    number16(writer, shift.first);
+    number16(writer, shift.last);
+    number8(writer, shift.kind);
+    number8(writer, shift.route);
+    number8(writer, shift.end);
+    number32(writer, shift.request_time);
+    number32(writer, shift.age);
 }
 
 // A list that is extended by records, from a state and a count of records under a table.
 pub fn extend(
+    writer: &mut impl Write,
     list: &mut [u8],
     held: usize,
     state: State,
@@ -45,6 +48,9 @@ pub fn extend(
     table: Table,
     records: &[u8],
 ) {
-    print_listed(shiftlist_extend::extend(list, held, state, count, table, records));
-    printing::bytes(list);
+    print_listed(
+        writer,
+        shiftlist_extend::extend(list, held, state, count, table, records),
+    );
+    printing::bytes(writer, list);
 }

@@ -7,7 +7,7 @@ use Prim.Native.Nat.{ℕ, suc, ◌<◌}
 use native.Mathlib.Omega.{arith}
 use lib.ListN.{length}
 use contract.Lifetimes.{Lfts}
-use denote.Ref.{Bor}
+use denote.MutBor.{MutBor}
 use denote.Triple.Entry.{Args}
 use denote.Triple.Clauses.{AtExit}
 use Rattle.limits.specs.declared.Table.{Table}
@@ -25,8 +25,8 @@ use Rattle.munasirel.proofs.Determined.{Advanced, AdvancedBlock}
 -- a call of `munasirel_advance` that is lent the state s and leaves s' and this excess
 pub record Called (t : Table) (s : State) (code middle low high number over : ℕ) (s' : State) : Type 0 where
   pub κs : Lfts 2
-  pub state : Bor State
-  pub excess : Bor ℕ
+  pub state : MutBor State
+  pub excess : MutBor ℕ
   pub at : AtExit advance.ended κs
   pub lent : state.now ≡ s
   pub call : Advanced κs (state, (t, (code, (middle, (low, (high, (excess, tt))))))) number at

@@ -92,8 +92,8 @@ munasirel-write κs a x y at at' p q = (
   both (p.4 ∙ sym q.4) (both (p.1 ∙ sym q.1) (both (p.2 ∙ sym q.2) (p.3 ∙ sym q.3))),
 )
 
--- ---- `munasirel_advance` and `munasirel_advance_block` are walked by hand, so that no `Reads` is made of them: the clause of each as
--- a plain claim, and that in every model the contract has this claim
+-- ---- of `munasirel_advance` and `munasirel_advance_block` the clause as a plain claim, and that in every model the contract has this
+-- claim
 abbrev answered : (κs : Lfts 2) → Args advance.signature κs → Answer
 answered κs a = advanced_on a.1.0 a.0.now a.1.1.0 a.1.1.1.0 a.1.1.1.1.0 a.1.1.1.1.1.0
 

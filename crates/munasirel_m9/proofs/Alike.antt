@@ -4,7 +4,7 @@
 use mathlib.Core.Path.{◌≡◌, sym, subst, ◌∙◌}
 use Prim.Native.Nat.{ℕ}
 use contract.Lifetimes.{Lfts}
-use denote.Ref.{Bor}
+use denote.MutBor.{MutBor}
 use denote.Triple.Clauses.{AtExit}
 use Rattle.limits.specs.declared.Table.{Table}
 use Rattle.shift.specs.declared.State.{State}
@@ -38,8 +38,8 @@ pub record Called (v : Variables) (s : State) (t : Table) (b : Bytes) (m : Moved
   pub at : AtExit m9-advance.ended κs
   pub theirs : m9-advance-reads.Post κs (v, (t, (b.code, (b.middle, (b.low, (b.high, tt)))))) m at
   pub κs' : Lfts 2
-  pub state : Bor State
-  pub excess : Bor ℕ
+  pub state : MutBor State
+  pub excess : MutBor ℕ
   pub at' : AtExit advance.ended κs'
   pub lent : state.now ≡ s
   pub ours : ours.Advanced κs' (state, (t, (b.code, (b.middle, (b.low, (b.high, (excess, tt))))))) number at'

@@ -1,9 +1,12 @@
-// Writing to a file descriptor what is said of a step file.
-// The line of its verdict.
+// Writing what is said of a step file.
 #![tactic(auto)]
-pub fn line(fd: i32, file: &[u8]) {
+
+use std::io::Write;
+
+// The line of its verdict.
+pub fn line<W: Write>(writer: &mut W, file: &[u8]) {
     let mut text = [0u8; 128];
     let laid = verdict::line(file, &mut text);
     let end = laid.length;
-    io::write_all(fd, &text[..end]);
+    let _ = writer.write_all(&text[..end]);
 }

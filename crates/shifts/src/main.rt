@@ -1,8 +1,9 @@
 // The program `shifts`: reads a list of shifts from standard input and prints it as a table.
 #![tactic(auto)]
+
 use columns::Page;
-use libc::{STDERR_FILENO, STDIN_FILENO, STDOUT_FILENO};
 use shiftlist::Shift;
+use std::io::{Stderr, Stdout};
 
 // The widths of the columns, in which every entry fits.
 const NUMBER: u8 = 5;
@@ -21,50 +22,57 @@ const FIRST: u8 = 12;
 
 const LAST: u8 = 11;
 
-fn main() {
+fn main(rt: HostRuntime) {
     // One byte longer than the longest list.
     let mut list = [0u8; 261961];
-    let input = input::read_all(STDIN_FILENO, &mut list);
+    let input = input::read_all(&mut rt.stdin(), &mut list);
     if input.failed {
-        say(b"standard input could not be read");
+        say(rt.stderr(), b"standard input could not be read");
         return;
     }
     let length = input.length;
-    show(&list[..length]);
+    show(rt.stdout(), rt.stderr(), &list[..length]);
 }
 
 // A sentence on standard error.
-fn say(words: &[u8]) {
-    io::write_all(STDERR_FILENO, b"shifts: ");
-    io::write_all(STDERR_FILENO, words);
-    io::write_all(STDERR_FILENO, b"\n");
+fn say(err: Stderr, words: &[u8]) {
+    let _ = err.write_all(b"shifts: ");
+    let _ = err.write_all(words);
+    let _ = err.write_all(b"\n");
 }
 
 // The table, or why there is none; 14 is a list without a first shift.
-fn show(list: &[u8]) {
+fn show(out: Stdout, err: Stderr, list: &[u8]) {
     let fetched = shiftlist::fetch(list, 0);
     let number = fetched.number;
     match number {
-        0 => tell(table(list)),
-        1 => say(b"the list is refused with 1: it has fewer than 8 bytes"),
-        2 => say(b"the list is refused with 2: the offset of its first entry is not 8"),
+        0 => tell(err, table(out, list)),
+        1 => say(
+            err,
+            b"the list is refused with 1: it has fewer than 8 bytes",
+        ),
+        2 => say(
+            err,
+            b"the list is refused with 2: the offset of its first entry is not 8",
+        ),
         3 => say(
+            err,
             b"the list is refused with 3: its length is not 8 bytes and 16 for each shift that it counts",
         ),
-        _ => tell(io::write_all(STDOUT_FILENO, b"no shifts\n")),
+        _ => tell(err, out.write_all(b"no shifts\n").is_ok()),
     }
 }
 
-fn tell(written: bool) {
+fn tell(err: Stderr, written: bool) {
     if !written {
-        say(b"the table could not be written");
+        say(err, b"the table could not be written");
     }
 }
 
 // Prints the table of a list, shift by shift, and answers whether it could be written.
-fn table(list: &[u8]) -> bool {
+fn table(out: Stdout, list: &[u8]) -> bool {
     let mut text = [0u8; 4096];
-    let mut page = head(&mut text, Page::blank());
+    let mut page = head(&mut text, Page::blank(out));
     let mut number: usize = 0;
     // As many as the longest list has.
     while number < 16372 {

@@ -1,31 +1,20 @@
--- Bytes copied behind the first ones of a text, and the lines of entries one behind the other.
+-- The lines of entries one behind the other, and what a laid text counts of the buffer.
 -- Assumes nothing.
-use mathlib.Core.Path.{◌≡◌, sym, ap, ◌∙◌}
+use mathlib.Core.Path.{◌≡◌, sym, ◌∙◌}
 use mathlib.Core.List.{List, ◌++◌, append_assoc, append-nil}
 use Prim.Native.Nat.{ℕ, suc, ◌+◌, ◌≤◌, ◌<◌}
 use native.Mathlib.Numerals.{add-one}
 use native.Mathlib.Omega.{arith}
 use lib.Dec.{leb}
-use lib.ListN.{length, get_or, take, drop, length-append, length-drop}
-use lib.Seq.{length-take-le, take-length, take_at, drop-cons, drop-length}
+use lib.ListN.{length, get_or, drop, length-append, length-drop}
+use lib.Seq.{length-take-le, drop-cons, drop-length}
 use borrow.Author.Tests.{leb-true}
-use borrow.Rule.Slice.PartMut.{post_of, put_mid}
 use Rattle.checks.proofs.Tests.{case}
 use Rattle.io.specs.Counts.{IsPrefixLen}
 use Rattle.line.specs.declared.Laid.{Laid}
 use Rattle.line.specs.Laying.{laid, after}
 use Rattle.line.proofs.LineLaws.{within}
 use Rattle.tabletext.specs.Printed.{entry_line, lines_from}
-
-module _ (text bytes part lent : List ℕ) (at n k : ℕ) where
-  pub copied : at ≤ length text → n ≡ length bytes → lent ≡ take (length bytes) bytes ++ drop (length bytes) part
-      → take (at + n) (put_mid at k text lent) ≡ take at text ++ bytes
-  copied h e l =
-      let rest = drop (length bytes) part in
-      let front : length (take at text ++ bytes) ≡ at + n = omega (arith, e, length-take-le at text h, length-append (take at text) bytes) in
-      let whole : put_mid at k text lent ≡ (take at text ++ bytes) ++ (rest ++ post_of at k text) =
-      rw (l, take-length bytes, append_assoc bytes rest (post_of at k text), append_assoc (take at text) bytes (rest ++ post_of at k text)) in
-      ap (take (at + n)) whole ∙ take_at (take at text ++ bytes) (rest ++ post_of at k text) (at + n) front
 
 -- ---- the lines of entries, those from one on behind those before it
 module _ (vs whole front : List ℕ) (i : ℕ) (h : front ++ lines_from i (drop i vs) ≡ whole) where

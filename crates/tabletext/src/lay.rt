@@ -24,7 +24,7 @@ pub fn lay(table: Table, out: &mut [u8]) -> Laid
             length: 0,
         };
     }
-    bytes::copy(&space[..size], out);
+    out[..size].copy_from_slice(&space[..size]);
     Laid {
         number: 0,
         length: size,
@@ -88,6 +88,7 @@ fn append(text: &mut [u8], at: usize, bytes: &[u8]) -> usize
     ensures value { result ≡ at + length bytes.now }
     ensures text_after { take result text.new ≡ take at text.old ++ bytes.now }
 {
-    let size = bytes::copy(bytes, &mut text[at..]);
-    at + size
+    let end = at + bytes.len();
+    text[at..end].copy_from_slice(bytes);
+    end
 }

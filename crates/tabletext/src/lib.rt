@@ -1,5 +1,6 @@
 // A limit table as text: what any text says, and a table laid as text into a lent buffer.
 #![tactic(auto)]
+
 ghost use Rattle.std.specs.Prelude.{◌≡◌, map, length, get_or, set};
 ghost use Rattle.checks.specs.Checks.{first};
 ghost use Rattle.limits.specs.Limits.{table_of};

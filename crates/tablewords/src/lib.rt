@@ -1,5 +1,6 @@
 // The words of a line of a table's text, and the number that a word is; which entry it names is in names.rt.
 #![tactic(auto)]
+
 ghost use Rattle.std.specs.Prelude.{◌≡◌, ◌+◌, ◌-◌, ◌*◌, ◌≤◌, length, take, drop};
 ghost use Rattle.tablewords.specs.Words.{blank, holds, leading, word, behind, digit, capped, number_of};
 

@@ -1,5 +1,5 @@
 // The names of the entries, and which entry a word names.
-ghost use Rattle.std.specs.Prelude.{◌≡◌, ◌++◌, length, drop};
+ghost use Rattle.std.specs.Prelude.{◌≡◌, ◌++◌, ◌≤◌, length, drop};
 ghost use Rattle.io.specs.Counts.{IsPrefixLen};
 ghost use Rattle.tablewords.specs.Names.{name, same, entry_named};
 
@@ -10,30 +10,40 @@ pub fn name(entry: usize, space: &mut [u8; 21]) -> usize
     ensures space_after { space.new ≡ name entry ++ drop (length (name entry)) space.old }
 {
     match entry {
-        0 => bytes::copy(b"Channel_DL", space),
-        1 => bytes::copy(b"Engine_Sync_DL", space),
-        2 => bytes::copy(b"Engine_Zero_DL", space),
-        3 => bytes::copy(b"Clutch_Open_DL", space),
-        4 => bytes::copy(b"Clutch_Close_DL", space),
-        5 => bytes::copy(b"Gear_Set_DL", space),
-        6 => bytes::copy(b"Gear_Release_DL", space),
-        7 => bytes::copy(b"Sync_EX", space),
-        8 => bytes::copy(b"Zero_EX", space),
-        9 => bytes::copy(b"Sync_DL", space),
-        10 => bytes::copy(b"Zero_DL", space),
-        11 => bytes::copy(b"Sync_DE", space),
-        12 => bytes::copy(b"Zero_DE", space),
-        13 => bytes::copy(b"OpenClutch_DL", space),
-        14 => bytes::copy(b"SetGear_DL", space),
-        15 => bytes::copy(b"Release_DL", space),
-        16 => bytes::copy(b"CloseClutch_DL", space),
-        17 => bytes::copy(b"ChangeDL", space),
-        18 => bytes::copy(b"Clutch_Open_DE", space),
-        19 => bytes::copy(b"Error_Clutch_Open_DE", space),
-        20 => bytes::copy(b"Clutch_Close_DE", space),
-        21 => bytes::copy(b"Error_Clutch_Close_DE", space),
+        0 => copy(b"Channel_DL", space),
+        1 => copy(b"Engine_Sync_DL", space),
+        2 => copy(b"Engine_Zero_DL", space),
+        3 => copy(b"Clutch_Open_DL", space),
+        4 => copy(b"Clutch_Close_DL", space),
+        5 => copy(b"Gear_Set_DL", space),
+        6 => copy(b"Gear_Release_DL", space),
+        7 => copy(b"Sync_EX", space),
+        8 => copy(b"Zero_EX", space),
+        9 => copy(b"Sync_DL", space),
+        10 => copy(b"Zero_DL", space),
+        11 => copy(b"Sync_DE", space),
+        12 => copy(b"Zero_DE", space),
+        13 => copy(b"OpenClutch_DL", space),
+        14 => copy(b"SetGear_DL", space),
+        15 => copy(b"Release_DL", space),
+        16 => copy(b"CloseClutch_DL", space),
+        17 => copy(b"ChangeDL", space),
+        18 => copy(b"Clutch_Open_DE", space),
+        19 => copy(b"Error_Clutch_Open_DE", space),
+        20 => copy(b"Clutch_Close_DE", space),
+        21 => copy(b"Error_Clutch_Close_DE", space),
         _ => 0,
     }
+}
+
+// Copies bytes to the start of a space, and answers how many.
+fn copy(bytes: &[u8], space: &mut [u8]) -> usize
+    requires { length bytes.now ≤ length space.old }
+    ensures value { result ≡ length bytes.now }
+    ensures space_after { space.new ≡ bytes.now ++ drop (length bytes.now) space.old }
+{
+    space[..bytes.len()].copy_from_slice(bytes);
+    bytes.len()
 }
 
 // The number of the entry that a word names, 22 where it names none.

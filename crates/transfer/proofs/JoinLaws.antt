@@ -8,7 +8,7 @@ use native.Mathlib.Nat.{max-eq_left}
 use native.Mathlib.Omega.{arith}
 use lib.Dec.{eqb}
 use lib.ListN.{length, take, drop, length-append, length-take, length-drop, take-append-drop, drop_of_length-le}
-use lib.Seq.{take_at, drop_at, length-take-le, take_all, take-length, drop-drop}
+use lib.Seq.{take_at, drop_at, length-take-le, take_all, drop-drop}
 use borrow.Rule.Slice.PartMut.{put_mid}
 use Rattle.checks.proofs.Checks.{Fails, number_at, refused, holds→first}
 use Rattle.checks.proofs.Tests.{tests, passes}
@@ -80,14 +80,14 @@ module _ (buffer : List ℕ) (held offset : ℕ) (part : List ℕ) where
   inside l h e = (rw (e, count-inside h), rw (e, appended-inside l h))
 
   -- a part that ends beyond them: its rest is copied into what is lent of the buffer, from the bytes held on
-  module _ (l : offset ≤ held) (k : held - offset < length part) where
+  module _ (l : offset ≤ held) (k : held - offset < length part) (fits : offset + length part ≤ length buffer) where
     count-rest : new_count held offset part ≡ held + length (drop (held - offset) part)
     count-rest = simp length-drop (omega arith)
 
     module _ (lent : List ℕ)
         (copied :
         lent
-        ≡ take (length (from (held - offset) part)) (from (held - offset) part)
+        ≡ take (length (from held buffer)) (from (held - offset) part)
         ++ drop (length (from (held - offset) part)) (from held buffer)) where
       appended-rest : put_mid held (length buffer - held) buffer lent ≡ appended buffer held offset part
       appended-rest =
@@ -95,7 +95,7 @@ module _ (buffer : List ℕ) (held offset : ℕ) (part : List ℕ) where
             copied,
             from_is (held - offset) part,
             from_is held buffer,
-            take-length (drop (held - offset) part),
+            take_all (length (drop held buffer)) (drop (held - offset) part) (simp length-drop (omega arith)),
             drop-drop (length (drop (held - offset) part)) held buffer,
             ← count-rest,
             drop_of_length-le (drop held buffer) {i = length buffer - held} (simp length-drop (omega arith)),

@@ -1,6 +1,7 @@
 // Joining: the parts of a file, as they arrive over a radio that drops and resumes, are put together in a buffer.
 #![tactic(auto)]
-ghost use Rattle.std.specs.Prelude.{◌≡◌, ◌≤◌, length, take, drop};
+
+ghost use Rattle.std.specs.Prelude.{◌≡◌, ◌++◌, ◌≤◌, length, take, drop};
 ghost use Rattle.transfer.specs.Join.{agree, joined, buffer_after};
 
 // The number that refuses a part, 0 for one that is accepted, and how many bytes are held then.
@@ -34,7 +35,7 @@ pub fn join(buffer: &mut [u8], held: usize, offset: usize, part: &[u8]) -> Joine
     if length <= seen {
         return Joined { number: 0, held };
     }
-    bytes::copy(&part[seen..], &mut buffer[held..]);
+    copy(&part[seen..], &mut buffer[held..]);
     Joined {
         number: 0,
         held: offset + length,
@@ -60,4 +61,12 @@ fn agrees(buffer: &[u8], held: usize, offset: usize, part: &[u8]) -> bool
         i += 1;
     }
     true
+}
+
+// Copies as many bytes as the other has room for to its start.
+fn copy(from: &[u8], to: &mut [u8])
+    ensures { to.new ≡ take (length to.old) from.now ++ drop (length from.now) to.old }
+{
+    let n = from.len().min(to.len());
+    to[..n].copy_from_slice(&from[..n]);
 }

@@ -1,11 +1,11 @@
-// A case: read from standard input, field by field, and answered by its line.
+// A case: read from a reader, field by field, and answered by its line to a writer. What that does not take is left out.
 ghost use Rattle.std.specs.Prelude.{◌≡◌, ◌≤◌, T, length};
 ghost use Rattle.io.specs.Counts.{IsPrefixLen};
 ghost use Rattle.vectors.specs.Cases.{sized};
 
 use crate::answers;
-use libc::{STDIN_FILENO, STDOUT_FILENO};
 use numbers::{byte_at, u32_at};
+use std::io::{Read, Write};
 
 const END: u8 = 0;
 
@@ -21,18 +21,24 @@ struct Head {
 }
 
 // Answers the next case, with its fields in these spaces. False where the run ends: the input has ended, or no whole case is there.
-pub(crate) fn answer_next(a: &mut [u8], b: &mut [u8], c: &mut [u8]) -> bool {
-    let head = read_head();
-    let in_a = read_field(a, head.a);
-    let in_b = read_field(b, head.b);
-    let in_c = read_field(c, head.c);
+pub(crate) fn answer_next(
+    reader: &mut impl Read,
+    writer: &mut impl Write,
+    a: &mut [u8],
+    b: &mut [u8],
+    c: &mut [u8],
+) -> bool {
+    let head = read_head(reader);
+    let in_a = read_field(reader, a, head.a);
+    let in_b = read_field(reader, b, head.b);
+    let in_c = read_field(reader, c, head.c);
     let kind = kind_of(head, in_a, in_b, in_c);
-    answer(kind, &a[..in_a], &b[..in_b], &mut c[..in_c])
+    answer(writer, kind, &a[..in_a], &b[..in_b], &mut c[..in_c])
 }
 
-fn read_head() -> Head {
+fn read_head(reader: &mut impl Read) -> Head {
     let mut bytes = [0u8; 13];
-    let count = read_field(&mut bytes, 13);
+    let count = read_field(reader, &mut bytes, 13);
     if count == 0 {
         return without_fields(END);
     }
@@ -68,13 +74,13 @@ fn head_of(bytes: &[u8]) -> Head {
 }
 
 // Reads a field to the start of its space, and answers how many bytes were read: none where the space is too short.
-fn read_field(space: &mut [u8], size: usize) -> usize
+fn read_field(reader: &mut impl Read, space: &mut [u8], size: usize) -> usize
     ensures { IsPrefixLen result space.new }
 {
     if space.len() < size {
         return 0;
     }
-    let input = input::read_all(STDIN_FILENO, &mut space[..size]);
+    let input = input::read_all(reader, &mut space[..size]);
     input.length
 }
 
@@ -87,17 +93,17 @@ fn kind_of(head: Head, a: usize, b: usize, c: usize) -> u8 {
 }
 
 // Answers a case of this kind with these fields; false where there is none.
-fn answer(kind: u8, a: &[u8], b: &[u8], c: &mut [u8]) -> bool {
+fn answer(writer: &mut impl Write, kind: u8, a: &[u8], b: &[u8], c: &mut [u8]) -> bool {
     if kind == END {
         return false;
     }
     if is_sized(kind, a.len(), b.len(), c.len()) {
-        word(kind);
-        print_rest(kind, a, b, c);
-        io::write_all(STDOUT_FILENO, b"\n");
+        word(writer, kind);
+        print_rest(writer, kind, a, b, c);
+        let _ = writer.write_all(b"\n");
         return true;
     }
-    io::write_all(STDOUT_FILENO, b"bad\n");
+    let _ = writer.write_all(b"bad\n");
     kind != NO_CASE
 }
 
@@ -129,20 +135,20 @@ fn is_sized(kind: u8, a: usize, b: usize, c: usize) -> bool
 }
 
 // Each word stands at eight times its kind.
-fn word(kind: u8) {
+fn word(writer: &mut impl Write, kind: u8) {
     if 17 < kind {
         return;
     }
     let words =
         b"        admit   step    advance read    judge   line    join    write   manual  block   list    fetch   extend  text    tighter print   rules   ";
     let from = 8 * (kind as usize);
-    write_part(words, from, from + letters(kind));
+    write_part(writer, words, from, from + letters(kind));
 }
 
-fn write_part(words: &[u8], from: usize, to: usize)
+fn write_part(writer: &mut impl Write, words: &[u8], from: usize, to: usize)
     requires { (from ≤ to) × (to ≤ length words.now) }
 {
-    io::write_all(STDOUT_FILENO, &words[from..to]);
+    let _ = writer.write_all(&words[from..to]);
 }
 
 fn letters(kind: u8) -> usize
@@ -165,27 +171,27 @@ fn letters(kind: u8) -> usize
 }
 
 // The line behind its word.
-fn print_rest(kind: u8, a: &[u8], b: &[u8], c: &mut [u8])
+fn print_rest(writer: &mut impl Write, kind: u8, a: &[u8], b: &[u8], c: &mut [u8])
     requires { T (sized kind (length a.now) (length b.now) (length c.old)) }
 {
     match kind {
-        1 => answers::admit(a),
-        2 => answers::step(a),
-        3 => answers::advance(a),
-        4 => answers::read(b),
-        5 => answers::judge(b),
-        6 => answers::line(b, c),
-        7 => answers::join(a, b, c),
-        8 => answers::write(a, b, c),
-        9 => answers::manual(a, b),
-        10 => answers::block(a, b),
-        11 => answers::list(b, c),
-        12 => answers::fetch(a, b),
-        13 => answers::extend(a, b, c),
-        14 => answers::text(b),
-        15 => answers::tighter(a),
-        16 => answers::print(a),
-        17 => answers::rules(a),
+        1 => answers::admit(writer, a),
+        2 => answers::step(writer, a),
+        3 => answers::advance(writer, a),
+        4 => answers::read(writer, b),
+        5 => answers::judge(writer, b),
+        6 => answers::line(writer, b, c),
+        7 => answers::join(writer, a, b, c),
+        8 => answers::write(writer, a, b, c),
+        9 => answers::manual(writer, a, b),
+        10 => answers::block(writer, a, b),
+        11 => answers::list(writer, b, c),
+        12 => answers::fetch(writer, a, b),
+        13 => answers::extend(writer, a, b, c),
+        14 => answers::text(writer, b),
+        15 => answers::tighter(writer, a),
+        16 => answers::print(writer, a),
+        17 => answers::rules(writer, a),
         _ => {}
     }
 }
