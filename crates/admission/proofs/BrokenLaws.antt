@@ -13,7 +13,7 @@ use lib.ListN.{get_or, get_or-eq_default}
 use borrow.Author.Tests.{lt-ltb, le-ltb, le-leb, lt-leb}
 use Rattle.checks.specs.Checks.{first, numbered}
 use Rattle.checks.proofs.Ranges.{below}
-use Rattle.checks.proofs.Tests.{Tests, nothing-to-test}
+use Rattle.checks.proofs.Tests.{Tests, nothing_to_test}
 use Rattle.limits.specs.declared.Table.{Table}
 use Rattle.limits.specs.Rules.{rules}
 use Rattle.limits.proofs.Refusals.{Each}
@@ -21,15 +21,15 @@ use Rattle.admission.specs.Broken.{is_broken, left_sides, left_side, right_entri
 use Rattle.admission.specs.Refusals.{StatedAt}
 
 -- ---- a rule by its sides
-not-leb : (m n : ℕ) → not (leb m n) ≡ ltb n m
-not-leb m n =
+not_leb : (m n : ℕ) → not (leb m n) ≡ ltb n m
+not_leb m n =
     elim (dec_lt n m) [
       | yes h ↦ rw (lt-leb m n h, lt-ltb n m h)
       | no h ↦ let l : m ≤ n = omega arith in rw (le-leb m n l, le-ltb n m l)
     ]
 
-not-ltb : (m n : ℕ) → not (ltb m n) ≡ leb n m
-not-ltb m n =
+not_ltb : (m n : ℕ) → not (ltb m n) ≡ leb n m
+not_ltb m n =
     elim (dec_lt m n) [
       | yes h ↦ rw (lt-ltb m n h, lt-leb n m h)
       | no h ↦ let l : n ≤ m = omega arith in rw (le-ltb m n l, le-leb n m l)
@@ -47,20 +47,20 @@ abbrev SideRule : Table → ℕ → Type 0
 SideRule t n = (n ≡ 1 → ⊥) → (n ≡ 16 → ⊥) → is_broken t n ≡ by_sides t n
 
 more : (t : Table) (n : ℕ) → not (leb (left_side t n) (right_side t n)) ≡ ltb (right_side t n) (left_side t n)
-more t n = not-leb (left_side t n) (right_side t n)
+more t n = not_leb (left_side t n) (right_side t n)
 
 no_less : (t : Table) (n : ℕ) → not (ltb (left_side t n) (right_side t n)) ≡ leb (right_side t n) (left_side t n)
-no_less t n = not-ltb (left_side t n) (right_side t n)
+no_less t n = not_ltb (left_side t n) (right_side t n)
 
-up-to-16 : (t : Table) (n : ℕ) → n < 17 → SideRule t n
-up-to-16 t =
+up_to_16 : (t : Table) (n : ℕ) → n < 17 → SideRule t n
+up_to_16 t =
     below
     (SideRule t)
     17
     (((((((((((((((((tt, λ _ _. refl), λ h _. absurd (h refl)), λ _ _. more t 2), λ _ _. more t 3), λ _ _. no_less t 4), λ _ _. no_less t 5), λ _ _. no_less t 6), λ _ _. no_less t 7), λ _ _. no_less t 8), λ _ _. no_less t 9), λ _ _. more t 10), λ _ _. more t 11), λ _ _. more t 12), λ _ _. more t 13), λ _ _. more t 14), λ _ _. more t 15), λ _ h. absurd (h refl))
 
-past-16 : (t : Table) (n : ℕ) → 17 ≤ n → is_broken t n ≡ by_sides t n
-past-16 t n h =
+past_16 : (t : Table) (n : ℕ) → 17 ≤ n → is_broken t n ≡ by_sides t n
+past_16 t n h =
     rw (
       get_or-eq_default (true ∷ rules t) true {n = n} h,
       get_or-eq_default (left_sides t) 0 {n = n} (omega arith),
@@ -69,11 +69,11 @@ past-16 t n h =
       lt-leb n 9 (omega arith),
     )
 
-pub by-sides : (t : Table) (n : ℕ) → SideRule t n
-by-sides t n a b =
+pub by_sides_lem : (t : Table) (n : ℕ) → SideRule t n
+by_sides_lem t n a b =
     elim (dec_lt n 17) [
-      | yes h ↦ up-to-16 t n h a b
-      | no h ↦ past-16 t n (omega arith)
+      | yes h ↦ up_to_16 t n h a b
+      | no h ↦ past_16 t n (omega arith)
     ]
 
 -- ---- the first of numbered tests that fails
@@ -112,7 +112,7 @@ first_or_none k (false ∷ bs) =
 
 -- ---- statements that are tested one by one
 pub tested_at : (bs : List Bool) (Ps : List (Type 0)) → Each bs Ps → (n : ℕ) → Tests (get_or bs n true) (StatedAt Ps n)
-tested_at [] [] h n = nothing-to-test
+tested_at [] [] h n = nothing_to_test
 tested_at [] (P ∷ Ps) h n = absurd h
 tested_at (b ∷ bs) [] h n = absurd h
 tested_at (b ∷ bs) (P ∷ Ps) h zero = h.0

@@ -22,20 +22,20 @@ module _ (test : ℕ → Bool) where
       let rest = at_most (suc i) n in
       chosen (λ r. r ≤ i + suc n) (test i) i (first_from test (suc i) n) (λ _. omega arith) (λ _. omega arith)
 
-  pub passes-there : (i n : ℕ) → first_from test i n < i + n → T (test (first_from test i n))
-  passes-there i zero h = absurd (omega arith)
-  passes-there i (suc n) h =
+  pub passes_there : (i n : ℕ) → first_from test i n < i + n → T (test (first_from test i n))
+  passes_there i zero h = absurd (omega arith)
+  passes_there i (suc n) h =
       chosen (λ r. r < i + suc n → T (test r)) (test i) i (first_from test (suc i) n)
       (λ t _. t)
-      (λ _ l. passes-there (suc i) n (omega arith))
+      (λ _ l. passes_there (suc i) n (omega arith))
       h
 
-  pub fails-before : (i n k : ℕ) → i ≤ k → k < first_from test i n → T (not (test k))
-  fails-before i zero k l h = absurd (omega arith)
-  fails-before i (suc n) k l h =
+  pub fails_before : (i n k : ℕ) → i ≤ k → k < first_from test i n → T (not (test k))
+  fails_before i zero k l h = absurd (omega arith)
+  fails_before i (suc n) k l h =
       chosen (λ r. k < r → T (not (test k))) (test i) i (first_from test (suc i) n)
       (λ _ b. absurd (omega arith))
-      (λ no b. ⊎_elim (λ e. subst (λ (j : ℕ). T (not (test j))) e no) (λ m. fails-before (suc i) n k m b) (eq-or-lt_of_le l))
+      (λ no b. ⊎_elim (λ e. subst (λ (j : ℕ). T (not (test j))) e no) (λ m. fails_before (suc i) n k m b) (eq-or-lt_of_le l))
       h
 
   -- a turn of a loop: the number passes, it does not, and there is none left

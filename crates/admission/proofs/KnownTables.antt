@@ -11,15 +11,15 @@ use Rattle.admission.specs.FirstTighter.{first_tighter}
 use Rattle.admission.specs.Broken.{is_broken, sums_of, left_side, right_side}
 
 -- from the old default to the new one, back, to the house's and back
-pub known-first-tighter-entries :
+pub known_first_tighter_entries :
     (first_tighter by_old_default by_new_default ≡ 22)
     × (first_tighter by_new_default by_old_default ≡ 0)
     × (first_tighter by_new_default by_house ≡ 18)
     × (first_tighter by_house by_new_default ≡ 22)
-known-first-tighter-entries = (refl, refl, refl, refl)
+known_first_tighter_entries = (refl, refl, refl, refl)
 
-pub known-sums : sums_of by_old_default ≡ record { f = 905; n = 905; g1 = 1405; g2 = 1255 }
-known-sums = refl
+pub known_sums : sums_of by_old_default ≡ record { f = 905; n = 905; g1 = 1405; g2 = 1255 }
+known_sums = refl
 
 -- Engine_Sync_DL 131 and a Channel_DL of 10, ChangeDL 1404, and a plain delay without the others
 abbrev pub three_broken : Table
@@ -31,6 +31,6 @@ pub known-broken-rules :
     ≡ false ∷ true ∷ false ∷ false ∷ false ∷ false ∷ false ∷ false ∷ false ∷ false ∷ false ∷ false ∷ false ∷ true ∷ false ∷ true ∷ []
 known-broken-rules = refl
 
-pub known-sides :
+pub known_sides :
     (left_side three_broken 2 ≡ 151) × (right_side three_broken 2 ≡ 150) × (left_side three_broken 14 ≡ 1405) × (right_side three_broken 14 ≡ 1404)
-known-sides = (refl, refl, refl, refl)
+known_sides = (refl, refl, refl, refl)

@@ -79,9 +79,9 @@ pub first-left : (xs ys : List Check) → ¬ (first xs ≡ 0) → first (xs ++ y
 first-left [] ys h = absurd (h refl)
 first-left (c ∷ cs) ys h = same c.ok (first (cs ++ ys)) (first cs) c.number h (first-left cs ys)
 
-pub first-right : (xs ys : List Check) → Holds xs → first (xs ++ ys) ≡ first ys
-first-right [] ys h = refl
-first-right (c ∷ cs) ys h = holding c.ok (first (cs ++ ys)) c.number (first ys) h.0 (first-right cs ys h.1)
+pub first_right : (xs ys : List Check) → Holds xs → first (xs ++ ys) ≡ first ys
+first_right [] ys h = refl
+first_right (c ∷ cs) ys h = holding c.ok (first (cs ++ ys)) c.number (first ys) h.0 (first_right cs ys h.1)
 
 -- a second part that holds adds nothing
 pub first_alone : (xs ys : List Check) → first ys ≡ 0 → first (xs ++ ys) ≡ first xs
@@ -94,7 +94,7 @@ found_left xs ys e h = e ∙ sym (first-left xs ys (λ q. h (e ∙ q)))
 
 pub found_right :
     {k m : ℕ} (xs ys : List Check) → T (absent 0 xs) → k ≡ first xs → k ≡ 0 → m ≡ first ys → m ≡ first (xs ++ ys)
-found_right xs ys n e z f = f ∙ sym (first-right xs ys (first→holds 0 xs n (sym e ∙ z)).0)
+found_right xs ys n e z f = f ∙ sym (first_right xs ys (first→holds 0 xs n (sym e ∙ z)).0)
 
 -- ---- the answer is 0 or lies where the numbers of the list lie
 abbrev pub within : ℕ → ℕ → List Check → Bool
@@ -115,8 +115,8 @@ pub at_most : (m : ℕ) (cs : List Check) → T (within 0 m cs) → first cs ≤
 at_most m cs h = ⊎_elim (λ z. omega arith) (λ b. b.1) (between 0 m cs h)
 
 -- ---- a list of one check, whose failure was tested: x is past y
-pub one-check : {b : Bool} (x y k : ℕ) → b ≡ ltb y x → cond b k 0 ≡ first ((leb x y ! k) ∷ [])
-one-check {b} x y k e =
+pub one_check : {b : Bool} (x y k : ℕ) → b ≡ ltb y x → cond b k 0 ≡ first ((leb x y ! k) ∷ [])
+one_check {b} x y k e =
     elim (dec_lt y x) [
       | yes h ↦ rw (e, lt-ltb y x h, lt-leb x y h)
       | no h ↦ let l : x ≤ y = omega arith in rw (e, le-ltb y x l, le-leb x y l)

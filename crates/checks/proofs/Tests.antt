@@ -64,8 +64,8 @@ pub record Tests (b : Bool) (P : Type 0) : Type 0 where
 pub exactly : {b : Bool} {P : Type 0} → Tests b P → T b ↔ P
 exactly t = (t.read, t.shown)
 
-pub nothing-to-test : Tests true (Unit {0})
-nothing-to-test = record { read = λ _. tt; shown = λ _. tt }
+pub nothing_to_test : Tests true (Unit {0})
+nothing_to_test = record { read = λ _. tt; shown = λ _. tt }
 
 pub most : {m n : ℕ} → Tests (leb m n) (m ≤ n)
 most {m} {n} = record { read = leb→le m n; shown = le→leb m n }

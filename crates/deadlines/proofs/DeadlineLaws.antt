@@ -45,9 +45,9 @@ module _ (end now : ℕ) where
       ]
   past-stage false h = absurd (omega arith)
 
-  pub in-stage : (l : Bool) → now ≤ cond l (lesser now end) now → leb (cond l now 0) end ≡ true
-  in-stage true h = le-leb now end (below_both now end now h).1
-  in-stage false h = le-leb 0 end zero-le
+  pub in_stage : (l : Bool) → now ≤ cond l (lesser now end) now → leb (cond l now 0) end ≡ true
+  in_stage true h = le-leb now end (below_both now end now h).1
+  in_stage false h = le-leb 0 end zero-le
 
 -- ---- where there is one
 never : (b : Bool) → (b && false) ≡ false
@@ -58,11 +58,11 @@ module _ (s : State) where
   abbrev staged : Bool
   staged = leb 1 s.stage && leb s.stage 3
 
-  pub in-force : unfinished s.phase ≡ true → 1 ≤ s.stage → s.stage ≤ 3 → limited s ≡ true
-  in-force u i j = ap (λ b. b && staged) u ∙ rw (le-leb 1 s.stage i, le-leb s.stage 3 j)
+  pub in_force : unfinished s.phase ≡ true → 1 ≤ s.stage → s.stage ≤ 3 → limited s ≡ true
+  in_force u i j = ap (λ b. b && staged) u ∙ rw (le-leb 1 s.stage i, le-leb s.stage 3 j)
 
-  pub not-shifting : unfinished s.phase ≡ false → limited s ≡ false
-  not-shifting u = ap (λ b. b && staged) u
+  pub not_shifting : unfinished s.phase ≡ false → limited s ≡ false
+  not_shifting u = ap (λ b. b && staged) u
 
   pub idle : ¬ (s.stage ≡ 1) × ¬ (s.stage ≡ 3) → ¬ (s.stage ≡ 2) → limited s ≡ false
   idle n o =
@@ -82,13 +82,13 @@ module _ (cap stage phase now : ℕ) where
   abbrev In : Bool → Bool → Type 0
   In l u = T (leb now cap) × T (leb (cond l now 0) stage) × T (leb (cond u now 0) phase)
 
-  in-phase : (u : Bool) → now ≤ end u → T (leb now cap) × T (leb (cond u now 0) phase)
-  in-phase true h = let k = below_both cap phase now h in (le→leb now cap k.0, le→leb now phase k.1)
-  in-phase false h = (le→leb now cap h, le→leb 0 phase (omega arith))
+  in_phase : (u : Bool) → now ≤ end u → T (leb now cap) × T (leb (cond u now 0) phase)
+  in_phase true h = let k = below_both cap phase now h in (le→leb now cap k.0, le→leb now phase k.1)
+  in_phase false h = (le→leb now cap h, le→leb 0 phase (omega arith))
 
   in_all : (l u : Bool) → now ≤ until l u → In l u
-  in_all true u h = let k = below_both (end u) stage now h in let p = in-phase u k.0 in (p.0, le→leb now stage k.1, p.1)
-  in_all false u h = let p = in-phase u h in (p.0, le→leb 0 stage (omega arith), p.1)
+  in_all true u h = let k = below_both (end u) stage now h in let p = in_phase u k.0 in (p.0, le→leb now stage k.1, p.1)
+  in_all false u h = let p = in_phase u h in (p.0, le→leb 0 stage (omega arith), p.1)
 
   to_end : (u : Bool) → T (leb now cap) → T (leb (cond u now 0) phase) → now ≤ end u
   to_end true h k = both_below cap phase now (leb→le now cap h) (leb→le now phase k)
@@ -116,22 +116,22 @@ module _ (cap stage phase now : ℕ) where
       absurd (omega arith)
 
 -- ---- the first of three checks
-none-fails : (a b c : Bool) → T a → T b → T c → first ((a ! 13) ∷ (b ! 12) ∷ (c ! 11) ∷ []) ≡ 0
-none-fails true true true x y z = refl
-none-fails true true false x y z = absurd z
-none-fails true false c x y z = absurd y
-none-fails false b c x y z = absurd x
+none_fails : (a b c : Bool) → T a → T b → T c → first ((a ! 13) ∷ (b ! 12) ∷ (c ! 11) ∷ []) ≡ 0
+none_fails true true true x y z = refl
+none_fails true true false x y z = absurd z
+none_fails true false c x y z = absurd y
+none_fails false b c x y z = absurd x
 
-one-fails : (a b c : Bool) → (T a → T b → T c → ⊥) → cond a (cond b 11 12) 13 ≡ first ((a ! 13) ∷ (b ! 12) ∷ (c ! 11) ∷ [])
-one-fails true true true n = absurd (n tt tt tt)
-one-fails true true false n = refl
-one-fails true false c n = refl
-one-fails false b c n = refl
+one_fails : (a b c : Bool) → (T a → T b → T c → ⊥) → cond a (cond b 11 12) 13 ≡ first ((a ! 13) ∷ (b ! 12) ∷ (c ! 11) ∷ [])
+one_fails true true true n = absurd (n tt tt tt)
+one_fails true true false n = refl
+one_fails true false c n = refl
+one_fails false b c n = refl
 
-never-0 : (a b : Bool) → ¬ (◌≡◌ {A = ℕ} (cond a (cond b 11 12) 13) 0)
-never-0 true true e = omega arith
-never-0 true false e = omega arith
-never-0 false b e = omega arith
+never_0 : (a b : Bool) → ¬ (◌≡◌ {A = ℕ} (cond a (cond b 11 12) 13) 0)
+never_0 true true e = omega arith
+never_0 true false e = omega arith
+never_0 false b e = omega arith
 
 -- ---- of a table and a state
 module _ (t : Table) (s : State) where
@@ -139,45 +139,45 @@ module _ (t : Table) (s : State) where
   shifting = unfinished s.phase
 
   -- the three checks of a tick
-  abbrev by-clock : ℕ → Bool
-  by-clock now = leb now 4294967295
+  abbrev by_clock : ℕ → Bool
+  by_clock now = leb now 4294967295
 
-  abbrev by-stage : ℕ → Bool
-  by-stage now = leb (cond (limited s) now 0) (stage_bound t s)
+  abbrev by_stage : ℕ → Bool
+  by_stage now = leb (cond (limited s) now 0) (stage_bound t s)
 
-  abbrev by-phase : ℕ → Bool
-  by-phase now = leb (cond shifting now 0) (phase_bound t s)
+  abbrev by_phase : ℕ → Bool
+  by_phase now = leb (cond shifting now 0) (phase_bound t s)
 
-  kept : (now : ℕ) → now ≤ deadline t s → T (by-clock now) × T (by-stage now) × T (by-phase now)
+  kept : (now : ℕ) → now ≤ deadline t s → T (by_clock now) × T (by_stage now) × T (by_phase now)
   kept now = in_all 4294967295 (stage_bound t s) (phase_bound t s) now (limited s) shifting
 
   -- up to the deadline every tick is allowed
-  pub in-time : (now : ℕ) → now ≤ deadline t s → first (in_tick_time t s now) ≡ 0
-  in-time now h =
+  pub in_time : (now : ℕ) → now ≤ deadline t s → first (in_tick_time t s now) ≡ 0
+  in_time now h =
       let k = kept now h in
-      none-fails (by-clock now) (by-stage now) (by-phase now) k.0 k.1 k.2
+      none_fails (by_clock now) (by_stage now) (by_phase now) k.0 k.1 k.2
 
   -- past it every tick is refused, by the first of 13, 12 and 11
-  pub too-late :
+  pub too_late :
       (now : ℕ) → deadline t s < now → late_by (device_limit t (order_of s.phase)) t.channel_dl s now ≡ first (in_tick_time t s now)
-  too-late now h =
-      one-fails (by-clock now) (by-stage now) (by-phase now)
+  too_late now h =
+      one_fails (by_clock now) (by_stage now) (by_phase now)
       (λ a b c.
       let l : now ≤ deadline t s = all_in 4294967295 (stage_bound t s) (phase_bound t s) now (limited s) shifting (a, b, c) in
       omega arith)
 
   -- and so far over
-  pub so-far-over :
+  pub so_far_over :
       (now : ℕ) → deadline t s < now
       → (let device = device_limit t (order_of s.phase) in
       let k = late_by device t.channel_dl s now in
       over_by (phase_end_of t s) device t.channel_dl s now k ≡ excess_by t s 0 now k)
-  so-far-over now h =
+  so_far_over now h =
       let end = stage-end 4294967295 (stage_bound t s) (phase_bound t s) now (limited s) in
       let phase-is = phase-end 4294967295 (stage_bound t s) (phase_bound t s) now (limited s) shifting in
-      case (by-clock now)
+      case (by_clock now)
       (λ a.
-      case (by-stage now)
+      case (by_stage now)
       (λ b. rw (a, b) (ap (λ e. now - e) (phase-is a b h)))
       (λ b. rw (a, b) (ap (λ e. now - e) (end b))))
       (λ a. rw a)
@@ -186,12 +186,12 @@ module _ (t : Table) (s : State) where
   fits = leb→le (deadline t s) 4294967295 (kept (deadline t s) (omega arith)).0
 
   -- no tick moves it
-  pub no-tick-moves-it : (n : ℕ) → deadline t (ticked n s) ≡ deadline t s
-  no-tick-moves-it n = refl
+  pub no_tick_moves_it : (n : ℕ) → deadline t (ticked n s) ≡ deadline t s
+  no_tick_moves_it n = refl
 
-pub late-is-refused : (device channel : ℕ) (s : State) (now : ℕ) → ¬ (late_by device channel s now ≡ 0)
-late-is-refused device channel s now =
-    never-0 (leb now 4294967295) (leb (cond (limited s) now 0) (stage_end_of device channel s))
+pub late_is_refused : (device channel : ℕ) (s : State) (now : ℕ) → ¬ (late_by device channel s now ≡ 0)
+late_is_refused device channel s now =
+    never_0 (leb now 4294967295) (leb (cond (limited s) now 0) (stage_end_of device channel s))
 
 -- a step that enters no phase keeps the phase and its end
 pub keeps : (t : Table) (s : State) (x : Step) → enters x ≡ false → ((effect s x).phase ≡ s.phase) × (phase_end_of t (effect s x) ≡ phase_end_of t s)

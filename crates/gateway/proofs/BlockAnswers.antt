@@ -24,10 +24,10 @@ use Rattle.promises.specs.Answered.{Answered}
 use Rattle.verdict.specs.declared.Verdict.{Verdict}
 use Rattle.verdict.proofs.Verdicts.{outcome}
 use Rattle.gateway.specs.Advancing.{advanced_on, advancing, block_on}
-use Rattle.gateway.proofs.Answers.{a-record}
-use Rattle.gateway.proofs.Blocks.{a-block-is-its-records-one-by-one, admitted, not-admitted}
-use Rattle.gateway.specs.contracts.advanced_block as advanced-block-call
-use Rattle.gateway.proofs.advanced_block.Reads as advanced-block-reads
+use Rattle.gateway.proofs.Answers.{a_record}
+use Rattle.gateway.proofs.Blocks.{a_block_is_its_records_one_by_one, admitted, not_admitted}
+use Rattle.gateway.specs.contracts.advanced_block as advanced_block_call
+use Rattle.gateway.proofs.advanced_block.Reads as advanced_block_reads
 
 -- The records before the index are accepted one by one and lead to the state. Where the number is not 0, the record at the index is
 -- refused by it on that state and so far over, in the document's words; where it is 0, there is no record at the index.
@@ -60,24 +60,24 @@ module _ (t : Table) (s : State) (a b c d : ℕ) (l : List ℕ) where
         whole = λ z. let w = h.whole z in omega arith;
       }
   goes_on (suc k) o e h =
-      let r = a-record t s a b c d in
+      let r = a_record t s a b c d in
       record {
         accepted = refl;
         refused = λ n. (omega arith, rw (e, r.refused (λ z. omega arith)) at r);
         whole = λ z. absurd (omega arith);
       }
 
-pub where-a-block-stops :
+pub where_a_block_stops :
     (t : Table) (s : State) (l : List ℕ)
     → (let v = block_on t s l in BlockAnswered t s l v.number v.index v.excess v.state)
 unfolding block_on
-where-a-block-stops t s [] = no_more t s [] (omega arith)
-where-a-block-stops t s (a ∷ []) = no_more t s (a ∷ []) (omega arith)
-where-a-block-stops t s (a ∷ b ∷ []) = no_more t s (a ∷ b ∷ []) (omega arith)
-where-a-block-stops t s (a ∷ b ∷ c ∷ []) = no_more t s (a ∷ b ∷ c ∷ []) (omega arith)
-where-a-block-stops t s (a ∷ b ∷ c ∷ d ∷ l) =
+where_a_block_stops t s [] = no_more t s [] (omega arith)
+where_a_block_stops t s (a ∷ []) = no_more t s (a ∷ []) (omega arith)
+where_a_block_stops t s (a ∷ b ∷ []) = no_more t s (a ∷ b ∷ []) (omega arith)
+where_a_block_stops t s (a ∷ b ∷ c ∷ []) = no_more t s (a ∷ b ∷ c ∷ []) (omega arith)
+where_a_block_stops t s (a ∷ b ∷ c ∷ d ∷ l) =
     let x = advanced_on t s a b c d in
-    goes_on t s a b c d l x.number (advancing t x.state l) refl (where-a-block-stops t x.state l)
+    goes_on t s a b c d l x.number (advancing t x.state l) refl (where_a_block_stops t x.state l)
 
 -- of a block in which there is a record: 4 where the table breaks a rule, with the first that it breaks
 abbrev pub Ruled : Table → Verdict → Type 0
@@ -90,12 +90,12 @@ ruled t s l h =
     let z = eqb-true (broken_rule t) 0 e in
     let rule = z ∙ ap (λ (v : Verdict). v.rule) (admitted t s l z) in
     (λ n. absurd (n (limits.admitted t z)), subst (FirstOf (broken t)) rule (limits.in_order t)))
-    (λ e. subst (Ruled t) (not-admitted t s l (eqb-false (broken_rule t) 0 e) h) (λ _. refl, limits.in_order t))
+    (λ e. subst (Ruled t) (not_admitted t s l (eqb-false (broken_rule t) 0 e) h) (λ _. refl, limits.in_order t))
 
 -- ---- whatever the contract of `advanced_block` allows
 module _
-    (κs : Lfts 1) (given : Args advanced-block-call.signature κs) (v : Verdict) (at : AtExit advanced-block-call.ended κs)
-    (call : advanced-block-reads.Post κs given v at) where
+    (κs : Lfts 1) (given : Args advanced_block_call.signature κs) (v : Verdict) (at : AtExit advanced_block_call.ended κs)
+    (call : advanced_block_reads.Post κs given v at) where
   abbrev pub state : State
   state = given.0
 
@@ -105,13 +105,13 @@ module _
   abbrev pub records : List ℕ
   records = given.1.1.0.now
 
-  pub a-block-is-answered-as-its-records-one-by-one : outcome v ≡ advancing table state records
-  a-block-is-answered-as-its-records-one-by-one = ap outcome call ∙ a-block-is-its-records-one-by-one table state records
+  pub a_block_is_answered_as_its_records_one_by_one : outcome v ≡ advancing table state records
+  a_block_is_answered_as_its_records_one_by_one = ap outcome call ∙ a_block_is_its_records_one_by_one table state records
 
-  pub a-block-is-answered-in-the-document's-words : BlockAnswered table state records v.number v.index v.excess v.state
-  a-block-is-answered-in-the-document's-words =
+  pub a_block_is_answered_in_the_document's_words : BlockAnswered table state records v.number v.index v.excess v.state
+  a_block_is_answered_in_the_document's_words =
       subst (λ (w : Verdict). BlockAnswered table state records w.number w.index w.excess w.state) (sym call)
-      (where-a-block-stops table state records)
+      (where_a_block_stops table state records)
 
-  pub a-block-names-the-first-broken-rule : 4 ≤ length records → Ruled table v
-  a-block-names-the-first-broken-rule h = subst (Ruled table) (sym call) (ruled table state records h)
+  pub a_block_names_the_first_broken_rule : 4 ≤ length records → Ruled table v
+  a_block_names_the_first_broken_rule h = subst (Ruled table) (sym call) (ruled table state records h)

@@ -22,19 +22,19 @@ use Rattle.gateway.specs.Advancing.{advanced_on, advancing, block_on}
 use Rattle.gateway.proofs.Running.{one_by_one}
 
 -- of a block the count, the number, the excess and the state are those of its records one by one, whatever the table
-pub a-block-is-its-records-one-by-one : (t : Table) (s : State) (l : List ℕ) → outcome (block_on t s l) ≡ advancing t s l
+pub a_block_is_its_records_one_by_one : (t : Table) (s : State) (l : List ℕ) → outcome (block_on t s l) ≡ advancing t s l
 unfolding block_on
-a-block-is-its-records-one-by-one t s l = refl
+a_block_is_its_records_one_by_one t s l = refl
 
 -- ---- what is answered, by the table
 
-no-rule : (b : Bool) → cond {A = ℕ} b 0 0 ≡ 0
-no-rule true = refl
-no-rule false = refl
+no_rule : (b : Bool) → cond {A = ℕ} b 0 0 ≡ 0
+no_rule true = refl
+no_rule false = refl
 
 pub admitted : (t : Table) (s : State) (l : List ℕ) → broken_rule t ≡ 0 → of_run (run t s (records_in l)) ≡ block_on t s l
 unfolding block_on
-admitted t s l z = rw (← one_by_one t s l z, z, no-rule (eqb (advancing t s l).number 4))
+admitted t s l z = rw (← one_by_one t s l z, z, no_rule (eqb (advancing t s l).number 4))
 
 pub no_record :
     (t : Table) (s : State) (l : List ℕ) → length l < 4 → record { number = 0; rule = 0; index = 0; excess = 0; state = s } ≡ block_on t s l
@@ -45,15 +45,15 @@ no_record t s (a ∷ b ∷ []) h = refl
 no_record t s (a ∷ b ∷ c ∷ []) h = refl
 no_record t s (a ∷ b ∷ c ∷ d ∷ l) h = absurd (omega arith)
 
-pub not-admitted :
+pub not_admitted :
     (t : Table) (s : State) (l : List ℕ) → ¬ (broken_rule t ≡ 0) → 4 ≤ length l
     → record { number = 4; rule = broken_rule t; index = 0; excess = 0; state = s } ≡ block_on t s l
 unfolding block_on advanced_on
-not-admitted t s [] n h = absurd (omega arith)
-not-admitted t s (a ∷ []) n h = absurd (omega arith)
-not-admitted t s (a ∷ b ∷ []) n h = absurd (omega arith)
-not-admitted t s (a ∷ b ∷ c ∷ []) n h = absurd (omega arith)
-not-admitted t s (a ∷ b ∷ c ∷ d ∷ l) n h = rw (← breaks (broken_rule t) (judged t s (record_of a b c d)) s n)
+not_admitted t s [] n h = absurd (omega arith)
+not_admitted t s (a ∷ []) n h = absurd (omega arith)
+not_admitted t s (a ∷ b ∷ []) n h = absurd (omega arith)
+not_admitted t s (a ∷ b ∷ c ∷ []) n h = absurd (omega arith)
+not_admitted t s (a ∷ b ∷ c ∷ d ∷ l) n h = rw (← breaks (broken_rule t) (judged t s (record_of a b c d)) s n)
 
 -- a block of one record is the answer to it
 of_one :
@@ -63,15 +63,15 @@ of_one :
     record { number = o.number; rule = cond (eqb o.number 4) k 0; excess = o.excess; state = o.state })
     ≡ admitting k (answer g over next s) s
 of_one zero zero over next s = refl
-of_one zero (suc g) over next s = rw (no-rule (eqb (suc g) 4))
+of_one zero (suc g) over next s = rw (no_rule (eqb (suc g) 4))
 of_one (suc k) g over next s = refl
 
-pub a-block-of-one-record :
+pub a_block_of_one_record :
     (t : Table) (s : State) (a b c d : ℕ)
     → (let v = block_on t s (a ∷ b ∷ c ∷ d ∷ []) in record { number = v.number; rule = v.rule; excess = v.excess; state = v.state })
     ≡ advanced_on t s a b c d
 unfolding block_on advanced_on
-a-block-of-one-record t s a b c d =
+a_block_of_one_record t s a b c d =
     let r = record_of a b c d in
     of_one (broken_rule t) (guard t s r) (excess t s r (guard t s r)) (led s r) s
 
@@ -101,9 +101,9 @@ in_two t s (suc n) (a ∷ b ∷ c ∷ d ∷ xs) ys e =
     ap (after x.number x.excess s) (in_two t x.state n xs ys (omega arith))
     ∙ resumes s x.number x.excess (advancing t x.state xs) (λ q. advancing t q ys)
 
-pub blocks-one-after-another :
+pub blocks_one_after_another :
     (t : Table) (s : State) (n : ℕ) (xs ys : List ℕ) → length xs ≡ 4 * n
     → let v = block_on t s xs in
     outcome (block_on t s (xs ++ ys)) ≡ joined (outcome v) (outcome (block_on t v.state ys))
 unfolding block_on
-blocks-one-after-another = in_two
+blocks_one_after_another = in_two

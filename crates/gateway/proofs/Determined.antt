@@ -2,11 +2,11 @@
 -- Assumes nothing.
 use mathlib.Core.Path.{sym, ◌∙◌}
 use Rattle.checks.specs.Determined.{Determined}
-use Rattle.gateway.proofs.advanced.Reads as advanced-reads
-use Rattle.gateway.proofs.advanced_block.Reads as advanced-block-reads
+use Rattle.gateway.proofs.advanced.Reads as advanced_reads
+use Rattle.gateway.proofs.advanced_block.Reads as advanced_block_reads
 
-pub advanced : Determined advanced-reads.Post
+pub advanced : Determined advanced_reads.Post
 advanced κs a x y at at' p q = p ∙ sym q
 
-pub advanced-block : Determined advanced-block-reads.Post
-advanced-block κs a x y at at' p q = p ∙ sym q
+pub advanced_block : Determined advanced_block_reads.Post
+advanced_block κs a x y at at' p q = p ∙ sym q

@@ -25,11 +25,11 @@ unfolding advanced_on
 advances t s a b c d z = ap (λ (k : ℕ). admitting k (judged t s (record_of a b c d)) s) z
 
 -- going on by the answer is going on by the guard
-by-guard :
+by_guard :
     (k over : ℕ) (next s : State) (rest : State → Outcome)
     → (let a = answer k over next s in after a.number a.excess s (rest a.state)) ≡ after k over s (rest next)
-by-guard zero over next s rest = refl
-by-guard (suc k) over next s rest = refl
+by_guard zero over next s rest = refl
+by_guard (suc k) over next s rest = refl
 
 -- record by record is the run over what the records mean, from any state
 pub one_by_one :
@@ -42,11 +42,11 @@ one_by_one t s (a ∷ b ∷ c ∷ d ∷ rest) z =
     let r = record_of a b c d in
     let over = excess t s r (guard t s r) in
     ap (λ (x : Answer). after x.number x.excess s (advancing t x.state rest)) (advances t s a b c d z)
-    ∙ by-guard (guard t s r) over (led s r) s (λ q. advancing t q rest)
+    ∙ by_guard (guard t s r) over (led s r) s (λ q. advancing t q rest)
     ∙ ap (after (guard t s r) over s) (one_by_one t (led s r) rest z)
 
 -- the records of a good file, from the start state: the count is the verdict's index, the number and the state are the verdict's
-pub advancing-is-judging :
+pub advancing_is_judging :
     (f : List ℕ) → (refusal_of f).number ≡ 0 → advancing (table_in f) start (record_bytes f) ≡ outcome (verdict_of f)
-advancing-is-judging f z =
+advancing_is_judging f z =
     one_by_one (table_in f) start (record_bytes f) (good-file f z).admitted ∙ ap outcome (read-verdict f z)

@@ -11,15 +11,15 @@ use Rattle.checks.specs.Checks.{numbered}
 use Rattle.checks.specs.Conditions.{FirstOf}
 use Rattle.checks.proofs.ConditionLaws.{Tested, first_of}
 use Rattle.checks.proofs.Checks.{Holds, holds→first, first→holds, at_most}
-use Rattle.checks.proofs.Tests.{Tests, nothing-to-test, most, equal, all_of, some_of}
+use Rattle.checks.proofs.Tests.{Tests, nothing_to_test, most, equal, all_of, some_of}
 use Rattle.limits.specs.declared.Table.{Table}
 use Rattle.limits.specs.Limits.{limits, undelayed}
 use Rattle.limits.specs.Rules.{at_least1, waits, rules, broken_rule}
 use Rattle.limits.specs.Refusals.{by_old_default, by_new_default, by_house, NoDelays, BothDelayed, All, rules_stated, Admitted, broken_from, broken}
-use Rattle.limits.proofs.Table.broken_rule.Reads as broken-rule-reads
-use Rattle.limits.proofs.Table.old_default.Reads as old-default-reads
-use Rattle.limits.proofs.Table.new_default.Reads as new-default-reads
-use Rattle.limits.proofs.Table.house.Reads as house-reads
+use Rattle.limits.proofs.Table.broken_rule.Reads as broken_rule_reads
+use Rattle.limits.proofs.Table.old_default.Reads as old_default_reads
+use Rattle.limits.proofs.Table.new_default.Reads as new_default_reads
+use Rattle.limits.proofs.Table.house.Reads as house_reads
 
 -- tests of a list of statements
 abbrev pub Each : List Bool → List (Type 0) → Type 0
@@ -45,7 +45,7 @@ every n (b ∷ bs) (P ∷ Ps) h =
 
 -- rule 1, entry by entry
 at_least : (xs : List ℕ) → Tests (at_least1 xs) (All (map (λ x. 1 ≤ x) xs))
-at_least [] = nothing-to-test
+at_least [] = nothing_to_test
 at_least (x ∷ xs) = all_of most (at_least xs)
 
 -- rule 16: the four zeros, and the two orders that wait
@@ -55,8 +55,8 @@ zeros t =
     record {
       read = λ h.
           let z = each.read h in
-          record { plain-open = z.0; error-open = z.1.0; plain-close = z.1.1.0; error-close = z.1.1.1 };
-      shown = λ n. each.shown (n.plain-open, (n.error-open, (n.plain-close, n.error-close)));
+          record { plain_open = z.0; error_open = z.1.0; plain-close = z.1.1.0; error-close = z.1.1.1 };
+      shown = λ n. each.shown (n.plain_open, (n.error_open, (n.plain-close, n.error-close)));
     }
 
 waiting : (plain error device : ℕ) → Tests (waits plain error device) ((1 ≤ plain) × ((plain < error) × (error ≤ device)))
@@ -69,8 +69,8 @@ module _ (t : Table) where
   abbrev closes : Bool
   closes = waits t.clutch_close_de t.error_clutch_close_de t.clutch_close_dl
 
-  both-wait : Tests (opens && closes) (BothDelayed t)
-  both-wait =
+  both_wait : Tests (opens && closes) (BothDelayed t)
+  both_wait =
       let each =
       all_of
       (waiting t.clutch_open_de t.error_clutch_open_de t.clutch_open_dl)
@@ -79,19 +79,19 @@ module _ (t : Table) where
         read = λ h.
             let w = each.read h in
             record {
-              plain-open = w.0.0;
+              plain_open = w.0.0;
               plain-close = w.1.0;
-              exceeds-open = w.0.1.0;
-              exceeds-close = w.1.1.0;
-              within-open = w.0.1.1;
+              exceeds_open = w.0.1.0;
+              exceeds_close = w.1.1.0;
+              within_open = w.0.1.1;
               within-close = w.1.1.1;
             };
         shown = λ d.
-            each.shown ((d.plain-open, (d.exceeds-open, d.within-open)), (d.plain-close, (d.exceeds-close, d.within-close)));
+            each.shown ((d.plain_open, (d.exceeds_open, d.within_open)), (d.plain-close, (d.exceeds_close, d.within-close)));
       }
 
   delays : Tests (undelayed t || (opens && closes)) (NoDelays t ⊎ BothDelayed t)
-  delays = some_of (zeros t) both-wait
+  delays = some_of (zeros t) both_wait
 
   pub each : Each (rules t) (rules_stated t)
   each = (at_least (limits t), (most, (most, (most, (most, (most, (most, (most, (most, (most, (most, (most, (most, (most, (most, (delays, tt))))))))))))))))
@@ -99,34 +99,34 @@ module _ (t : Table) where
   pub in_order : FirstOf (broken t) (broken_rule t)
   in_order = first_of (numbered 1 (rules t)) (broken t) (tested 1 (rules t) (rules_stated t) each)
 
-  pub at-most-16 : broken_rule t ≤ 16
-  at-most-16 = at_most 16 (numbered 1 (rules t)) tt
+  pub at_most_16 : broken_rule t ≤ 16
+  at_most_16 = at_most 16 (numbered 1 (rules t)) tt
 
-  pub admitted-in-the-document's-words : (broken_rule t ≡ 0) ↔ Admitted t
-  admitted-in-the-document's-words =
+  pub admitted_in_the_document's_words : (broken_rule t ≡ 0) ↔ Admitted t
+  admitted_in_the_document's_words =
       let h = every 1 (rules t) (rules_stated t) each in
       (λ e. h.0 (first→holds 0 (numbered 1 (rules t)) tt e).0, λ a. holds→first (numbered 1 (rules t)) (h.1 a))
 
   pub admitted : broken_rule t ≡ 0 → Admitted t
-  admitted = admitted-in-the-document's-words.0
+  admitted = admitted_in_the_document's_words.0
 
-  pub not-admitted : ¬ (broken_rule t ≡ 0) → ¬ Admitted t
-  not-admitted n a = n (admitted-in-the-document's-words.1 a)
+  pub not_admitted : ¬ (broken_rule t ≡ 0) → ¬ Admitted t
+  not_admitted n a = n (admitted_in_the_document's_words.1 a)
 
 -- ---- of the contracts
-pub old-default : (κs : _) (a : _) (r : _) (at : _) → old-default-reads.Post κs a r at → r ≡ by_old_default
-old-default κs a r at p = p
+pub old_default : (κs : _) (a : _) (r : _) (at : _) → old_default_reads.Post κs a r at → r ≡ by_old_default
+old_default κs a r at p = p
 
-pub new-default : (κs : _) (a : _) (r : _) (at : _) → new-default-reads.Post κs a r at → r ≡ by_new_default
-new-default κs a r at p = p
+pub new_default : (κs : _) (a : _) (r : _) (at : _) → new_default_reads.Post κs a r at → r ≡ by_new_default
+new_default κs a r at p = p
 
-pub house : (κs : _) (a : _) (r : _) (at : _) → house-reads.Post κs a r at → r ≡ by_house
+pub house : (κs : _) (a : _) (r : _) (at : _) → house_reads.Post κs a r at → r ≡ by_house
 house κs a r at p = p
 
 -- what the three answer is admitted
-pub all-three-are-admitted : Admitted by_old_default × Admitted by_new_default × Admitted by_house
-all-three-are-admitted = (admitted by_old_default refl, admitted by_new_default refl, admitted by_house refl)
+pub all_three_are_admitted : Admitted by_old_default × Admitted by_new_default × Admitted by_house
+all_three_are_admitted = (admitted by_old_default refl, admitted by_new_default refl, admitted by_house refl)
 
-pub broken-rule :
-    (κs : _) (a : _) (r : _) (at : _) → broken-rule-reads.Post κs a r at → FirstOf (broken a.0) r × (r ≤ 16)
-broken-rule κs a r at p = rw p (in_order a.0, at-most-16 a.0)
+pub broken_rule_lem :
+    (κs : _) (a : _) (r : _) (at : _) → broken_rule_reads.Post κs a r at → FirstOf (broken a.0) r × (r ≤ 16)
+broken_rule_lem κs a r at p = rw p (in_order a.0, at_most_16 a.0)

@@ -6,14 +6,14 @@ use Rattle.limits.specs.declared.Table.{Table}
 use Rattle.limits.specs.Tighter.{NowhereTighter}
 
 module _ (t u : Table) (l : NowhereTighter t u) where
-  pub later-takes : (t.sync_ex ≤ u.sync_ex) × (t.zero_ex ≤ u.zero_ex)
-  later-takes = omega arith
+  pub later_takes : (t.sync_ex ≤ u.sync_ex) × (t.zero_ex ≤ u.zero_ex)
+  later_takes = omega arith
 
-  pub sooner-asks : (u.sync_de ≤ t.sync_de) × (u.zero_de ≤ t.zero_de)
-  sooner-asks = omega arith
+  pub sooner_asks : (u.sync_de ≤ t.sync_de) × (u.zero_de ≤ t.zero_de)
+  sooner_asks = omega arith
 
   -- the delays of the clutch, plain and error, opening and closing
-  pub sooner-reports :
+  pub sooner_reports :
       (u.clutch_open_de ≤ t.clutch_open_de) × (u.error_clutch_open_de ≤ t.error_clutch_open_de)
       × (u.clutch_close_de ≤ t.clutch_close_de) × (u.error_clutch_close_de ≤ t.error_clutch_close_de)
-  sooner-reports = omega arith
+  sooner_reports = omega arith

@@ -72,17 +72,17 @@ positive t =
 
 -- rule 16: no delay at all, or delays of both clutch orders
 pub record NoDelays (t : Table) : Type 0 where
-  pub plain-open : t.clutch_open_de ≡ 0
-  pub error-open : t.error_clutch_open_de ≡ 0
+  pub plain_open : t.clutch_open_de ≡ 0
+  pub error_open : t.error_clutch_open_de ≡ 0
   pub plain-close : t.clutch_close_de ≡ 0
   pub error-close : t.error_clutch_close_de ≡ 0
 
 pub record BothDelayed (t : Table) : Type 0 where
-  pub plain-open : 1 ≤ t.clutch_open_de
+  pub plain_open : 1 ≤ t.clutch_open_de
   pub plain-close : 1 ≤ t.clutch_close_de
-  pub exceeds-open : t.clutch_open_de < t.error_clutch_open_de
-  pub exceeds-close : t.clutch_close_de < t.error_clutch_close_de
-  pub within-open : t.error_clutch_open_de ≤ t.clutch_open_dl
+  pub exceeds_open : t.clutch_open_de < t.error_clutch_open_de
+  pub exceeds_close : t.clutch_close_de < t.error_clutch_close_de
+  pub within_open : t.error_clutch_open_de ≤ t.clutch_open_dl
   pub within-close : t.error_clutch_close_de ≤ t.clutch_close_dl
 
 -- rules 1 to 16

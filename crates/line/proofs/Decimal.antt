@@ -95,9 +95,9 @@ longer n k h f =
         let power : 10 ^ suc (suc j) ≡ 10 ^ suc j * 10 = pow-suc 10 (suc j) in
         omega arith
 
-fewest-spelled : (m n : ℕ) → n < m → IsDigitCount 10 1 n (length (spelled m n))
-fewest-spelled zero n h = absurd (omega arith)
-fewest-spelled (suc m) n h = case (ltb n 10) one (more (fewest-spelled m (n / 10)))
+fewest_spelled : (m n : ℕ) → n < m → IsDigitCount 10 1 n (length (spelled m n))
+fewest_spelled zero n h = absurd (omega arith)
+fewest_spelled (suc m) n h = case (ltb n 10) one (more (fewest_spelled m (n / 10)))
   where
     one : ltb n 10 ≡ true → IsDigitCount 10 1 n (length (spelled (suc m) n))
     one e =
@@ -112,4 +112,4 @@ fewest-spelled (suc m) n h = case (ltb n 10) one (more (fewest-spelled m (n / 10
 -- and no fewer digits hold it
 pub fewest : (n : ℕ) → IsDigitCount 10 1 n (length (decimal_of n))
 unfolding decimal_of
-fewest n = fewest-spelled (suc n) n (omega arith)
+fewest n = fewest_spelled (suc n) n (omega arith)

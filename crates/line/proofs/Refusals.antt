@@ -12,10 +12,10 @@ use Rattle.checks.proofs.Tests.{case}
 use Rattle.line.specs.Lines.{line_of}
 use Rattle.line.specs.Laying.{laid, after}
 use Rattle.line.specs.Refusals.{LineAnswers}
-use Rattle.line.proofs.lay.Reads as lay-reads
+use Rattle.line.proofs.lay.Reads as lay_reads
 
-pub line-answers : (text out : List ℕ) → LineAnswers text out (laid text out).number (laid text out).length (after text out)
-line-answers text out =
+pub line_answers : (text out : List ℕ) → LineAnswers text out (laid text out).number (laid text out).length (after text out)
+line_answers text out =
     case (leb (length text) (length out))
     (λ t.
     let fits = leb-true (length text) (length out) t in
@@ -25,6 +25,6 @@ line-answers text out =
     rw f (record { first = inl (past, refl); numbers = inr (inl refl); unchanged = λ n. (refl, refl) }))
 
 pub lay :
-    (κs : _) (a : _) (r : _) (at : _) → lay-reads.Post κs a r at
+    (κs : _) (a : _) (r : _) (at : _) → lay_reads.Post κs a r at
     → LineAnswers (line_of a.0) a.1.0.now r.number r.length at.1.0.now
-lay κs a r at p = rw (p.0, p.1) (line-answers (line_of a.0) a.1.0.now)
+lay κs a r at p = rw (p.0, p.1) (line_answers (line_of a.0) a.1.0.now)

@@ -2,35 +2,35 @@
 -- Assumes nothing.
 use mathlib.Core.Path.{sym, ◌∙◌}
 use Rattle.checks.specs.Determined.{Determined}
-use Rattle.manual.proofs.Variables.initialisation.Reads as initialisation-reads
-use Rattle.manual.proofs.on_side.Reads as on-side-reads
-use Rattle.manual.proofs.late.Reads as late-reads
-use Rattle.manual.proofs.early.Reads as early-reads
-use Rattle.manual.proofs.late_by.Reads as late-by-reads
-use Rattle.manual.proofs.early_by.Reads as early-by-reads
-use Rattle.manual.proofs.past.Reads as past-reads
-use Rattle.manual.proofs.or_else.Reads as or-else-reads
+use Rattle.manual.proofs.Variables.initialisation.Reads as initialisation_reads
+use Rattle.manual.proofs.on_side.Reads as on_side_reads
+use Rattle.manual.proofs.late.Reads as late_reads
+use Rattle.manual.proofs.early.Reads as early_reads
+use Rattle.manual.proofs.late_by.Reads as late_by_reads
+use Rattle.manual.proofs.early_by.Reads as early_by_reads
+use Rattle.manual.proofs.past.Reads as past_reads
+use Rattle.manual.proofs.or_else.Reads as or_else_reads
 
-pub initialisation : Determined initialisation-reads.Post
+pub initialisation : Determined initialisation_reads.Post
 initialisation κs a x y at at' p q = p ∙ sym q
 
-pub on-side : Determined on-side-reads.Post
-on-side κs a x y at at' p q = p ∙ sym q
+pub on_side : Determined on_side_reads.Post
+on_side κs a x y at at' p q = p ∙ sym q
 
-pub late : Determined late-reads.Post
+pub late : Determined late_reads.Post
 late κs a x y at at' p q = p ∙ sym q
 
-pub early : Determined early-reads.Post
+pub early : Determined early_reads.Post
 early κs a x y at at' p q = p ∙ sym q
 
-pub late_by : Determined late-by-reads.Post
+pub late_by : Determined late_by_reads.Post
 late_by κs a x y at at' p q = p ∙ sym q
 
-pub early-by : Determined early-by-reads.Post
-early-by κs a x y at at' p q = p ∙ sym q
+pub early_by : Determined early_by_reads.Post
+early_by κs a x y at at' p q = p ∙ sym q
 
-pub past : Determined past-reads.Post
+pub past : Determined past_reads.Post
 past κs a x y at at' p q = p ∙ sym q
 
-pub or_else : Determined or-else-reads.Post
+pub or_else : Determined or_else_reads.Post
 or_else κs a x y at at' p q = p ∙ sym q

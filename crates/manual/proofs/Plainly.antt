@@ -19,7 +19,7 @@ use Rattle.shift.specs.States.{working, good, waiting}
 use Rattle.shift.specs.Steps.{allowed, shifts_in, in_engine, in_device, in_tick_time, good_bound, failed_bound, take_bound, ask_bound, stage_bound, phase_bound, limited}
 use Rattle.shift.specs.Excess.{excess_by}
 use Rattle.shift.specs.Answers.{listed, guard, excess}
-use Rattle.shift.proofs.ExcessLaws.{none-below-9}
+use Rattle.shift.proofs.ExcessLaws.{none_below_9}
 use Rattle.manual.specs.Ticks.{past_else, first_past, refusing}
 use Rattle.manual.proofs.GuardLaws.{past_by, held, carries, alone}
 
@@ -122,7 +122,7 @@ module _ (t : Table) (s : State) (early now : ℕ) where
   quiet : (cs : List Check) → T (within 0 8 cs) → carried (first cs) ≡ 0
   quiet cs h =
       let l = at_most 8 cs h in
-      none-below-9 t s early now (first cs) (omega arith)
+      none_below_9 t s early now (first cs) (omega arith)
 
   turned : (b hs : Bool) (k m over : ℕ) → carried k ≡ 0 → carried m ≡ cond hs over 0 → carried (cond b m k) ≡ cond (b && hs) over 0
   turned true hs k m over e f = f
@@ -134,7 +134,7 @@ module _ (t : Table) (s : State) (early now : ℕ) where
       let own = left (leb 0 c.number && leb c.number 8) (within 0 8 cs) h in
       let l = leb→le c.number 8 (right (leb 0 c.number) (leb c.number 8) own) in
       turned c.ok (holds cs) c.number (first (cs ++ rest)) (carried (first rest))
-      (none-below-9 t s early now c.number (omega arith))
+      (none_below_9 t s early now c.number (omega arith))
       (behind cs rest (right (leb 0 c.number && leb c.number 8) (within 0 8 cs) h))
 
   -- what is asked before any time, then one time

@@ -23,7 +23,7 @@ use Rattle.manual.specs.Runs as manual
 use Rattle.manual.proofs.Places.{vars_at, state_at}
 use Rattle.manual.proofs.Places.Place.{rest}
 use Rattle.manual_agreement.specs.Agreement.{Reads, Agrees, Alike}
-use Rattle.manual_agreement.proofs.Joined.{Joined, answers, exceeds, leads-on}
+use Rattle.manual_agreement.proofs.Joined.{Joined, answers, exceeds, leads_on}
 use Rattle.manual_agreement.proofs.Readings.{reads}
 
 pub at-start : Joined initialisation start
@@ -44,7 +44,7 @@ same-excess t v s WrongAmount i = refl
 
 goes_on :
     (t : Table) (v : Variables) (s : State) (r : Reading) → Joined v s → number_of t v r ≡ 0 → Joined (led_to t v r) (led s r)
-goes_on t v s (Means x) i e = leads-on t v s x i e
+goes_on t v s (Means x) i e = leads_on t v s x i e
 goes_on t v s WrongCode i e = i
 goes_on t v s WrongAmount i e = i
 
@@ -61,18 +61,18 @@ by_number zero over v v' s s' i f =
 by_number (suc k) over v v' s s' i f =
     record { alike = record { number = refl; rule = refl; excess = refl; reads = reads v s i }; joined = i }
 
-by-rule :
+by_rule :
     (k : ℕ) (m : Moved) (a : Answer) (v : Variables) (s : State) → Joined v s → Together m a
     → Together (theirs.admitting k m v) (admitting k a s)
-by-rule zero m a v s i b = b
-by-rule (suc k) m a v s i b =
+by_rule zero m a v s i b = b
+by_rule (suc k) m a v s i b =
     record { alike = record { number = refl; rule = refl; excess = refl; reads = reads v s i }; joined = i }
 
-pub one-reading :
+pub one_reading :
     (t : Table) (v : Variables) (s : State) (r : Reading) → Joined v s
     → Together (theirs.admitting (broken_rule t) (moved t v r) v) (admitting (broken_rule t) (judged t s r) s)
-one-reading t v s r i =
-    by-rule (broken_rule t) (moved t v r) (judged t s r) v s i
+one_reading t v s r i =
+    by_rule (broken_rule t) (moved t v r) (judged t s r) v s i
     (subst (λ (k : ℕ). Together (moved t v r) (answer k (excess t s r (guard t s r)) (led s r) s)) (same t v s r i)
     (subst (λ (e : ℕ). Together (moved t v r) (answer (number_of t v r) e (led s r) s)) (same-excess t v s r i)
     (by_number (number_of t v r) (excess_of t v r) v (led_to t v r) s (led s r) i (goes_on t v s r i))))
@@ -99,6 +99,6 @@ from-joined t v s (r ∷ rs) i =
     (λ e. from-joined t (led_to t v r) (led s r) rs (goes_on t v s r i e))))
 
 -- for every table, admitted or not, and every list
-pub the-manual's-engine-is-our-machine :
+pub the_manual's_engine_is_our_machine :
     (t : Table) (rs : List Reading) → Agrees (manual.run t initialisation rs) (run t start rs)
-the-manual's-engine-is-our-machine t rs = from-joined t initialisation start rs at-start
+the_manual's_engine_is_our_machine t rs = from-joined t initialisation start rs at-start

@@ -10,40 +10,40 @@ use Rattle.limits.specs.Rules.{broken_rule}
 use Rattle.shift.specs.declared.State.{State}
 use Rattle.shift.specs.declared.Answer.{Answer}
 use Rattle.shift.specs.Answers.{reading}
-use Rattle.shift.specs.contracts.State.start as our-start
-use Rattle.shift.proofs.State.start.Reads as our-start-reads
+use Rattle.shift.specs.contracts.State.start as our_start
+use Rattle.shift.proofs.State.start.Reads as our_start_reads
 use Rattle.shift.specs.contracts.State.step as our_step
-use Rattle.shift.proofs.State.step.Reads as our-step-reads
+use Rattle.shift.proofs.State.step.Reads as our_step_reads
 use Rattle.manual.specs.declared.Variables.{Variables}
 use Rattle.manual.specs.declared.Moved.{Moved}
 use Rattle.manual.specs.Variables.{initialisation}
 use Rattle.manual.specs.Answers.{number_of, excess_of, led_to, move_to, moved_on}
 use Rattle.manual.specs.Answers as theirs
-use Rattle.manual.specs.contracts.Variables.initialisation as their-start
-use Rattle.manual.proofs.Variables.initialisation.Reads as their-start-reads
-use Rattle.manual_engine.specs.contracts.step as their-step
-use Rattle.manual_engine.proofs.step.Reads as their-step-reads
+use Rattle.manual.specs.contracts.Variables.initialisation as their_start
+use Rattle.manual.proofs.Variables.initialisation.Reads as their_start_reads
+use Rattle.manual_engine.specs.contracts.step as their_step
+use Rattle.manual_engine.proofs.step.Reads as their_step_reads
 use Rattle.manual_agreement.specs.Agreement.{Alike}
 use Rattle.manual_agreement.proofs.Joined.{Joined}
-use Rattle.manual_agreement.proofs.Agreement.{Together, at-start, one-reading}
+use Rattle.manual_agreement.proofs.Agreement.{Together, at-start, one_reading}
 
 -- a call of each start, and what it gave
 pub record Started (v : Variables) (s : State) : Type 0 where
   pub κs : Lfts 0
-  pub at : AtExit their-start.ended κs
-  pub theirs : their-start-reads.Post κs tt v at
+  pub at : AtExit their_start.ended κs
+  pub theirs : their_start_reads.Post κs tt v at
   pub κs' : Lfts 0
-  pub at' : AtExit our-start.ended κs'
-  pub ours : our-start-reads.Post κs' tt s at'
+  pub at' : AtExit our_start.ended κs'
+  pub ours : our_start_reads.Post κs' tt s at'
 
 -- a call of each step with the same table, code and amount, and what it answered
 pub record Called (v : Variables) (s : State) (t : Table) (code amount : ℕ) (m : Moved) (a : Answer) : Type 0 where
   pub κs : Lfts 0
-  pub at : AtExit their-step.ended κs
-  pub theirs : their-step-reads.Post κs (v, (t, (code, (0, (amount, tt))))) m at
+  pub at : AtExit their_step.ended κs
+  pub theirs : their_step_reads.Post κs (v, (t, (code, (0, (amount, tt))))) m at
   pub κs' : Lfts 0
   pub at' : AtExit our_step.ended κs'
-  pub ours : our-step-reads.Post κs' (s, (t, (code, (amount, tt)))) a at'
+  pub ours : our_step_reads.Post κs' (s, (t, (code, (amount, tt)))) a at'
 
 -- what both hold after any calls from their starts on, each on what the call before answered, be it accepted or refused; the table
 -- may be another in each call
@@ -58,7 +58,7 @@ together :
     → Together m a
 together v s t code amount m a i c =
     subst (λ (x : Moved). Together x a) (sym c.theirs)
-    (subst (λ (x : Answer). Together (moved_on t v code 0 amount) x) (sym c.ours) (one-reading t v s (reading code 0 amount) i))
+    (subst (λ (x : Answer). Together (moved_on t v code 0 amount) x) (sym c.ours) (one_reading t v s (reading code 0 amount) i))
 
 joined : {v : Variables} {s : State} → Advanced v s → Joined v s
 joined (started v s c) =
@@ -73,15 +73,15 @@ kept zero (suc k) over after v h = refl
 kept (suc k) number over after v h = refl
 
 -- the same number, rule and excess, and the variables read as the state
-pub every-call-is-answered-alike :
+pub every_call_is_answered_alike :
     (v : Variables) (s : State) → Advanced v s → (t : Table) (code amount : ℕ) (m : Moved) (a : Answer) → Called v s t code amount m a
     → Alike m a
-every-call-is-answered-alike v s b t code amount m a c = (together v s t code amount m a (joined b) c).alike
+every_call_is_answered_alike v s b t code amount m a c = (together v s t code amount m a (joined b) c).alike
 
 -- refused, a step gives back the variables that it was given, whatever they are
 pub refused-gives-back :
-    (v : Variables) (t : Table) (code middle amount : ℕ) (κs : Lfts 0) (m : Moved) (at : AtExit their-step.ended κs)
-    → their-step-reads.Post κs (v, (t, (code, (middle, (amount, tt))))) m at → ¬ (m.number ≡ 0) → m.variables ≡ v
+    (v : Variables) (t : Table) (code middle amount : ℕ) (κs : Lfts 0) (m : Moved) (at : AtExit their_step.ended κs)
+    → their_step_reads.Post κs (v, (t, (code, (middle, (amount, tt))))) m at → ¬ (m.number ≡ 0) → m.variables ≡ v
 refused-gives-back v t code middle amount κs m at p h =
     subst (λ (x : Moved). ¬ (x.number ≡ 0) → x.variables ≡ v) (sym p)
     (let r = reading code middle amount in

@@ -32,24 +32,24 @@ every f g (x ∷ xs) e k h =
     (either (eqb k x) (has k xs) h)
 
 -- of places
-pub in-each-phase :
+pub in_each_phase :
     {A : Type 0} (f g : ℕ → ℕ → A)
     → map (λ (j : ℕ). map (λ (k : ℕ). f k j) orders) stages ≡ map (λ (j : ℕ). map (λ (k : ℕ). g k j) orders) stages
     → (p n : ℕ) → T (valid (at p n)) → f p n ≡ g p n
-in-each-phase f g e p n h =
+in_each_phase f g e p n h =
     every (λ (k : ℕ). f k n) (λ (k : ℕ). g k n) orders
     (every (λ (j : ℕ). map (λ (k : ℕ). f k j) orders) (λ (j : ℕ). map (λ (k : ℕ). g k j) orders) stages e n (right (has p orders) (has n stages) h))
     p (left (has p orders) (has n stages) h)
 
-pub at-each-place :
+pub at_each_place :
     {A : Type 0} (f g : Place → A) → ((b : Bool) → f (rest b) ≡ g (rest b))
     → map (λ (j : ℕ). map (λ (k : ℕ). f (at k j)) orders) stages ≡ map (λ (j : ℕ). map (λ (k : ℕ). g (at k j)) orders) stages
     → map (λ (k : ℕ). f (done k)) lasts ≡ map (λ (k : ℕ). g (done k)) lasts
     → map (λ (k : ℕ). f (error k)) fallible ≡ map (λ (k : ℕ). g (error k)) fallible → (c : Place) → T (valid c) → f c ≡ g c
-at-each-place f g r s d e (rest b) h = r b
-at-each-place f g r s d e (at p n) h = in-each-phase (λ (k : ℕ) (j : ℕ). f (at k j)) (λ (k : ℕ) (j : ℕ). g (at k j)) s p n h
-at-each-place f g r s d e (done p) h = every (λ (k : ℕ). f (done k)) (λ (k : ℕ). g (done k)) lasts d p h
-at-each-place f g r s d e (error p) h = every (λ (k : ℕ). f (error k)) (λ (k : ℕ). g (error k)) fallible e p h
+at_each_place f g r s d e (rest b) h = r b
+at_each_place f g r s d e (at p n) h = in_each_phase (λ (k : ℕ) (j : ℕ). f (at k j)) (λ (k : ℕ) (j : ℕ). g (at k j)) s p n h
+at_each_place f g r s d e (done p) h = every (λ (k : ℕ). f (done k)) (λ (k : ℕ). g (done k)) lasts d p h
+at_each_place f g r s d e (error p) h = every (λ (k : ℕ). f (error k)) (λ (k : ℕ). g (error k)) fallible e p h
 
 -- of steps
 abbrev pub amount : Step → ℕ

@@ -22,7 +22,7 @@ use Rattle.manual.proofs.Places.Place.{at}
 use Rattle.manual.proofs.Ways.{goes, leads, refusal}
 use Rattle.manual.proofs.Plainly.{plainly, plain, plain_over, over}
 use Rattle.manual.proofs.Same.{Fact, found, wanted, all_found, all_wanted, theirs, ours, theirs-over, ours-over, after, next, resting, sent, working, ready, held, ended, failed}
-use Rattle.manual_agreement.proofs.Every.{at-each-place, each, amount}
+use Rattle.manual_agreement.proofs.Every.{at_each_place, each, amount}
 
 -- ---- the facts of every place and step
 
@@ -32,7 +32,7 @@ four f g a b c d = rw (a, b, c, d)
 module _ (t : Table) (w : Variables) (s : State) (n : ℕ) where
   of_steps : (c : Place) → T (valid c) → all_found t w s n c ≡ all_wanted t w s n c
   of_steps =
-      at-each-place (all_found t w s n) (all_wanted t w s n) (resting t w s n)
+      at_each_place (all_found t w s n) (all_wanted t w s n) (resting t w s n)
       (four (λ (g : ℕ). map (λ (p : ℕ). all_found t w s n (at p g)) orders) (λ (g : ℕ). map (λ (p : ℕ). all_wanted t w s n (at p g)) orders) (sent t w s n) (working t w s n) (ready t w s n) (held t w s n))
       (ended t w s n) (failed t w s n)
 
@@ -40,13 +40,13 @@ pub taken : {A : Type 0} (b : Bool) (x y z : A) → b ≡ true → cond b x z �
 taken true x y z e h = h
 taken false x y z e h = absurd (subst (λ (c : Bool). T c) (sym e) tt)
 
-valid-where : (b c : Bool) → b ≡ true → cond b c true ≡ true → T c
-valid-where true c e h = passes c h
-valid-where false c e h = absurd (subst (λ (x : Bool). T x) (sym e) tt)
+valid_where : (b c : Bool) → b ≡ true → cond b c true ≡ true → T c
+valid_where true c e h = passes c h
+valid_where false c e h = absurd (subst (λ (x : Bool). T x) (sym e) tt)
 
-not-accepted : (b : Bool) (k n : ℕ) → b ≡ false → cond b 0 k ≡ cond b 0 (suc n) → k ≡ 0 → ⊥
-not-accepted true k n e h z = absurd (subst (λ (x : Bool). T x) e tt)
-not-accepted false k n e h z = absurd (omega arith)
+not_accepted : (b : Bool) (k n : ℕ) → b ≡ false → cond b 0 k ≡ cond b 0 (suc n) → k ≡ 0 → ⊥
+not_accepted true k n e h z = absurd (subst (λ (x : Bool). T x) e tt)
+not_accepted false k n e h z = absurd (omega arith)
 
 module _ (t : Table) (w : Variables) (s : State) (c : Place) (h : T (valid c)) (x : Step) where
   fact : found t w s c x ≡ wanted t w s c x
@@ -60,10 +60,10 @@ module _ (t : Table) (w : Variables) (s : State) (c : Place) (h : T (valid c)) (
   unfolding found wanted
   same-excess = ap (λ (f : Fact). f.excess) fact
 
-  pub goes-where-accepted : theirs t w s c x ≡ 0 → goes c x ≡ false → ⊥
+  pub goes_where_accepted : theirs t w s c x ≡ 0 → goes c x ≡ false → ⊥
   unfolding found wanted
-  goes-where-accepted z e =
-      not-accepted (goes c x) (ours t w s c x) (refusal c x) e (ap (λ (f : Fact). f.refusal) fact) (sym same_number ∙ z)
+  goes_where_accepted z e =
+      not_accepted (goes c x) (ours t w s c x) (refusal c x) e (ap (λ (f : Fact). f.refusal) fact) (sym same_number ∙ z)
 
   pub same_after : goes c x ≡ true → after t w s c x ≡ vars_at (leads c x) (after t w s c x)
   unfolding found wanted
@@ -75,9 +75,9 @@ module _ (t : Table) (w : Variables) (s : State) (c : Place) (h : T (valid c)) (
   same_next e =
       taken (goes c x) (next t w s c x) (state_at (leads c x) (after t w s c x) (next t w s c x)) s e (ap (λ (f : Fact). f.state) fact)
 
-  pub still-valid : goes c x ≡ true → T (valid (leads c x))
+  pub still_valid : goes c x ≡ true → T (valid (leads c x))
   unfolding found wanted
-  still-valid e = valid-where (goes c x) (valid (leads c x)) e (ap (λ (f : Fact). f.place) fact)
+  still_valid e = valid_where (goes c x) (valid (leads c x)) e (ap (λ (f : Fact). f.place) fact)
 
 -- ---- both at one place
 
@@ -104,13 +104,13 @@ module _ (t : Table) (v : Variables) (s : State) (x : Step) (i : Joined v s) whe
       (same-excess t v s c i.valid-place x
       ∙ subst (λ (r : State). plain_over t r x ≡ excess t s (Means x) (guard t s (Means x))) i.state (sym (over t s x)))
 
-  pub leads-on : answered (stepped t v x) ≡ 0 → Joined (stepped t v x).after (effect s x)
-  leads-on z =
+  pub leads_on : answered (stepped t v x) ≡ 0 → Joined (stepped t v x).after (effect s x)
+  leads_on z =
       let h = i.valid-place in
       case (goes c x)
       (λ e. record {
         place = leads c x;
-        valid-place = still-valid t v s c h x e;
+        valid-place = still_valid t v s c h x e;
         variables =
             subst (λ (u : Variables). (stepped t u x).after ≡ vars_at (leads c x) (stepped t u x).after) (sym i.variables)
             (same_after t v s c h x e);
@@ -119,4 +119,4 @@ module _ (t : Table) (v : Variables) (s : State) (x : Step) (i : Joined v s) whe
             (subst (λ (u : Variables). effect (state_at c v s) x ≡ state_at (leads c x) (stepped t u x).after (effect (state_at c v s) x)) (sym i.variables)
             (same_next t v s c h x e));
       })
-      (λ e. absurd (goes-where-accepted t v s c h x (subst (λ (u : Variables). answered (stepped t u x) ≡ 0) i.variables z) e))
+      (λ e. absurd (goes_where_accepted t v s c h x (subst (λ (u : Variables). answered (stepped t u x) ≡ 0) i.variables z) e))

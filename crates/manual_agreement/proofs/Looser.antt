@@ -11,12 +11,12 @@ use Rattle.shift.specs.declared.State.{State}
 use Rattle.shift.specs.declared.Reading.{Reading}
 use Rattle.shift.specs.States.{start}
 use Rattle.shift.specs.Runs.{run}
-use Rattle.promises.proofs.Promises.{accepted-by-a-looser-table}
-use Rattle.promises.proofs.Defaults.{the-new-default-is-nowhere-tighter}
+use Rattle.promises.proofs.Promises.{accepted_by_a_looser_table}
+use Rattle.promises.proofs.Defaults.{the_new_default_is_nowhere_tighter}
 use Rattle.manual.specs.Runs as manual
 use Rattle.manual.specs.Variables.{initialisation}
 use Rattle.manual_agreement.specs.Agreement.{Reads, Agrees}
-use Rattle.manual_agreement.proofs.Agreement.{the-manual's-engine-is-our-machine}
+use Rattle.manual_agreement.proofs.Agreement.{the_manual's_engine_is_our_machine}
 
 -- both accept the list, with the same count, and read as one state
 pub record AcceptAlike (m n : manual.Outcome) : Type 0 where
@@ -26,14 +26,14 @@ pub record AcceptAlike (m n : manual.Outcome) : Type 0 where
   pub reads : Reads m.variables state
   pub reads' : Reads n.variables state
 
-pub accepted-by-a-looser-table-in-the-manual's-engine :
+pub accepted_by_a_looser_table_in_the_manual's_engine :
     (t u : Table) → broken_rule t ≡ 0 → broken_rule u ≡ 0 → NowhereTighter t u → (rs : List Reading)
     → (manual.run t initialisation rs).number ≡ 0
     → AcceptAlike (manual.run t initialisation rs) (manual.run u initialisation rs)
-accepted-by-a-looser-table-in-the-manual's-engine t u a b l rs z =
-    let m = the-manual's-engine-is-our-machine t rs in
-    let same = accepted-by-a-looser-table t u a b l rs (sym m.number ∙ z) in
-    let n = subst (Agrees (manual.run u initialisation rs)) same (the-manual's-engine-is-our-machine u rs) in
+accepted_by_a_looser_table_in_the_manual's_engine t u a b l rs z =
+    let m = the_manual's_engine_is_our_machine t rs in
+    let same = accepted_by_a_looser_table t u a b l rs (sym m.number ∙ z) in
+    let n = subst (Agrees (manual.run u initialisation rs)) same (the_manual's_engine_is_our_machine u rs) in
     record {
       number = n.number ∙ sym m.number ∙ z;
       count = n.count ∙ sym m.count;
@@ -42,8 +42,8 @@ accepted-by-a-looser-table-in-the-manual's-engine t u a b l rs z =
       reads' = n.reads;
     }
 
-pub accepted-by-the-new-default-in-the-manual's-engine :
+pub accepted_by_the_new_default_in_the_manual's_engine :
     (rs : List Reading) → (manual.run by_old_default initialisation rs).number ≡ 0
     → AcceptAlike (manual.run by_old_default initialisation rs) (manual.run by_new_default initialisation rs)
-accepted-by-the-new-default-in-the-manual's-engine =
-    accepted-by-a-looser-table-in-the-manual's-engine by_old_default by_new_default refl refl the-new-default-is-nowhere-tighter
+accepted_by_the_new_default_in_the_manual's_engine =
+    accepted_by_a_looser_table_in_the_manual's_engine by_old_default by_new_default refl refl the_new_default_is_nowhere_tighter

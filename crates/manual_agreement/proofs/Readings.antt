@@ -12,11 +12,11 @@ use Rattle.manual_reading.specs.declared.Read.{Read}
 use Rattle.manual_reading.specs.Reading.{reading}
 use Rattle.manual_reading.proofs.Readings.{got, due, shifting, ended, failed, resting}
 use Rattle.manual_agreement.specs.Agreement.{Reads}
-use Rattle.manual_agreement.proofs.Every.{at-each-place}
+use Rattle.manual_agreement.proofs.Every.{at_each_place}
 use Rattle.manual_agreement.proofs.Joined.{Joined}
 
 read_at : (w : Variables) (s : State) (c : Place) → T (valid c) → got w s c ≡ due w s c
-read_at w s = at-each-place (got w s) (due w s) (resting w s) (shifting w s) (ended w s) (failed w s)
+read_at w s = at_each_place (got w s) (due w s) (resting w s) (shifting w s) (ended w s) (failed w s)
 
 shown : (b : Bool) (x y : ℕ) → cond b x 0 ≡ cond b y 0 → T b → x ≡ y
 shown true x y e h = e

@@ -2,95 +2,95 @@
 -- Assumes nothing.
 use mathlib.Core.Path.{sym, ◌∙◌}
 use Rattle.checks.specs.Determined.{Determined}
-use Rattle.manual_devices.proofs.RequestFromNeu.Reads as RequestFromNeu-reads
-use Rattle.manual_devices.proofs.RequestNoNeu.Reads as RequestNoNeu-reads
-use Rattle.manual_devices.proofs.RequestToNeu.Reads as RequestToNeu-reads
-use Rattle.manual_devices.proofs.Engine_Request_SyncSpeed.Reads as Engine-Request-SyncSpeed-reads
-use Rattle.manual_devices.proofs.Engine_SyncSpeed.Reads as Engine-SyncSpeed-reads
-use Rattle.manual_devices.proofs.Engine_WaitForSyncClutch.Reads as Engine-WaitForSyncClutch-reads
-use Rattle.manual_devices.proofs.Engine_Request_ZeroTorque.Reads as Engine-Request-ZeroTorque-reads
-use Rattle.manual_devices.proofs.Engine_ZeroTorque.Reads as Engine-ZeroTorque-reads
-use Rattle.manual_devices.proofs.Engine_WaitForZeroClutch.Reads as Engine-WaitForZeroClutch-reads
-use Rattle.manual_devices.proofs.Clutch_Request_Open.Reads as Clutch-Request-Open-reads
-use Rattle.manual_devices.proofs.Clutch_Open.Reads as Clutch-Open-reads
-use Rattle.manual_devices.proofs.Error_Clutch_Open.Reads as Error-Clutch-Open-reads
-use Rattle.manual_devices.proofs.Clutch_Request_Close.Reads as Clutch-Request-Close-reads
-use Rattle.manual_devices.proofs.Clutch_Close.Reads as Clutch-Close-reads
-use Rattle.manual_devices.proofs.Error_Clutch_Close.Reads as Error-Clutch-Close-reads
-use Rattle.manual_devices.proofs.Gear_Request_Release.Reads as Gear-Request-Release-reads
-use Rattle.manual_devices.proofs.Gear_Release.Reads as Gear-Release-reads
-use Rattle.manual_devices.proofs.Error_Gear_Release.Reads as Error-Gear-Release-reads
-use Rattle.manual_devices.proofs.Gear_Request_Set.Reads as Gear-Request-Set-reads
-use Rattle.manual_devices.proofs.Gear_Set.Reads as Gear-Set-reads
-use Rattle.manual_devices.proofs.Error_Gear_Set.Reads as Error-Gear-Set-reads
-use Rattle.manual_devices.proofs.FINAL.Reads as FINAL-reads
-use Rattle.manual_devices.proofs.RESET.Reads as RESET-reads
+use Rattle.manual_devices.proofs.RequestFromNeu.Reads as RequestFromNeu_reads
+use Rattle.manual_devices.proofs.RequestNoNeu.Reads as RequestNoNeu_reads
+use Rattle.manual_devices.proofs.RequestToNeu.Reads as RequestToNeu_reads
+use Rattle.manual_devices.proofs.Engine_Request_SyncSpeed.Reads as Engine_Request_SyncSpeed_reads
+use Rattle.manual_devices.proofs.Engine_SyncSpeed.Reads as Engine_SyncSpeed_reads
+use Rattle.manual_devices.proofs.Engine_WaitForSyncClutch.Reads as Engine_WaitForSyncClutch_reads
+use Rattle.manual_devices.proofs.Engine_Request_ZeroTorque.Reads as Engine_Request_ZeroTorque_reads
+use Rattle.manual_devices.proofs.Engine_ZeroTorque.Reads as Engine_ZeroTorque_reads
+use Rattle.manual_devices.proofs.Engine_WaitForZeroClutch.Reads as Engine_WaitForZeroClutch_reads
+use Rattle.manual_devices.proofs.Clutch_Request_Open.Reads as Clutch_Request_Open_reads
+use Rattle.manual_devices.proofs.Clutch_Open.Reads as Clutch_Open_reads
+use Rattle.manual_devices.proofs.Error_Clutch_Open.Reads as Error_Clutch_Open_reads
+use Rattle.manual_devices.proofs.Clutch_Request_Close.Reads as Clutch_Request_Close_reads
+use Rattle.manual_devices.proofs.Clutch_Close.Reads as Clutch_Close_reads
+use Rattle.manual_devices.proofs.Error_Clutch_Close.Reads as Error_Clutch_Close_reads
+use Rattle.manual_devices.proofs.Gear_Request_Release.Reads as Gear_Request_Release_reads
+use Rattle.manual_devices.proofs.Gear_Release.Reads as Gear_Release_reads
+use Rattle.manual_devices.proofs.Error_Gear_Release.Reads as Error_Gear_Release_reads
+use Rattle.manual_devices.proofs.Gear_Request_Set.Reads as Gear_Request_Set_reads
+use Rattle.manual_devices.proofs.Gear_Set.Reads as Gear_Set_reads
+use Rattle.manual_devices.proofs.Error_Gear_Set.Reads as Error_Gear_Set_reads
+use Rattle.manual_devices.proofs.FINAL.Reads as FINAL_reads
+use Rattle.manual_devices.proofs.RESET.Reads as RESET_reads
 
-pub RequestFromNeu : Determined RequestFromNeu-reads.Post
+pub RequestFromNeu : Determined RequestFromNeu_reads.Post
 RequestFromNeu κs a x y at at' p q = p ∙ sym q
 
-pub RequestNoNeu : Determined RequestNoNeu-reads.Post
+pub RequestNoNeu : Determined RequestNoNeu_reads.Post
 RequestNoNeu κs a x y at at' p q = p ∙ sym q
 
-pub RequestToNeu : Determined RequestToNeu-reads.Post
+pub RequestToNeu : Determined RequestToNeu_reads.Post
 RequestToNeu κs a x y at at' p q = p ∙ sym q
 
-pub Engine-Request-SyncSpeed : Determined Engine-Request-SyncSpeed-reads.Post
-Engine-Request-SyncSpeed κs a x y at at' p q = p ∙ sym q
+pub Engine_Request_SyncSpeed : Determined Engine_Request_SyncSpeed_reads.Post
+Engine_Request_SyncSpeed κs a x y at at' p q = p ∙ sym q
 
-pub Engine-SyncSpeed : Determined Engine-SyncSpeed-reads.Post
-Engine-SyncSpeed κs a x y at at' p q = p ∙ sym q
+pub Engine_SyncSpeed : Determined Engine_SyncSpeed_reads.Post
+Engine_SyncSpeed κs a x y at at' p q = p ∙ sym q
 
-pub Engine-WaitForSyncClutch : Determined Engine-WaitForSyncClutch-reads.Post
-Engine-WaitForSyncClutch κs a x y at at' p q = p ∙ sym q
+pub Engine_WaitForSyncClutch : Determined Engine_WaitForSyncClutch_reads.Post
+Engine_WaitForSyncClutch κs a x y at at' p q = p ∙ sym q
 
-pub Engine-Request-ZeroTorque : Determined Engine-Request-ZeroTorque-reads.Post
-Engine-Request-ZeroTorque κs a x y at at' p q = p ∙ sym q
+pub Engine_Request_ZeroTorque : Determined Engine_Request_ZeroTorque_reads.Post
+Engine_Request_ZeroTorque κs a x y at at' p q = p ∙ sym q
 
-pub Engine-ZeroTorque : Determined Engine-ZeroTorque-reads.Post
-Engine-ZeroTorque κs a x y at at' p q = p ∙ sym q
+pub Engine_ZeroTorque : Determined Engine_ZeroTorque_reads.Post
+Engine_ZeroTorque κs a x y at at' p q = p ∙ sym q
 
-pub Engine-WaitForZeroClutch : Determined Engine-WaitForZeroClutch-reads.Post
-Engine-WaitForZeroClutch κs a x y at at' p q = p ∙ sym q
+pub Engine_WaitForZeroClutch : Determined Engine_WaitForZeroClutch_reads.Post
+Engine_WaitForZeroClutch κs a x y at at' p q = p ∙ sym q
 
-pub Clutch-Request-Open : Determined Clutch-Request-Open-reads.Post
-Clutch-Request-Open κs a x y at at' p q = p ∙ sym q
+pub Clutch_Request_Open : Determined Clutch_Request_Open_reads.Post
+Clutch_Request_Open κs a x y at at' p q = p ∙ sym q
 
-pub Clutch-Open : Determined Clutch-Open-reads.Post
-Clutch-Open κs a x y at at' p q = p ∙ sym q
+pub Clutch_Open : Determined Clutch_Open_reads.Post
+Clutch_Open κs a x y at at' p q = p ∙ sym q
 
-pub Error-Clutch-Open : Determined Error-Clutch-Open-reads.Post
-Error-Clutch-Open κs a x y at at' p q = p ∙ sym q
+pub Error_Clutch_Open : Determined Error_Clutch_Open_reads.Post
+Error_Clutch_Open κs a x y at at' p q = p ∙ sym q
 
-pub Clutch-Request-Close : Determined Clutch-Request-Close-reads.Post
-Clutch-Request-Close κs a x y at at' p q = p ∙ sym q
+pub Clutch_Request_Close : Determined Clutch_Request_Close_reads.Post
+Clutch_Request_Close κs a x y at at' p q = p ∙ sym q
 
-pub Clutch-Close : Determined Clutch-Close-reads.Post
-Clutch-Close κs a x y at at' p q = p ∙ sym q
+pub Clutch_Close : Determined Clutch_Close_reads.Post
+Clutch_Close κs a x y at at' p q = p ∙ sym q
 
-pub Error-Clutch-Close : Determined Error-Clutch-Close-reads.Post
-Error-Clutch-Close κs a x y at at' p q = p ∙ sym q
+pub Error_Clutch_Close : Determined Error_Clutch_Close_reads.Post
+Error_Clutch_Close κs a x y at at' p q = p ∙ sym q
 
-pub Gear-Request-Release : Determined Gear-Request-Release-reads.Post
-Gear-Request-Release κs a x y at at' p q = p ∙ sym q
+pub Gear_Request_Release : Determined Gear_Request_Release_reads.Post
+Gear_Request_Release κs a x y at at' p q = p ∙ sym q
 
-pub Gear-Release : Determined Gear-Release-reads.Post
-Gear-Release κs a x y at at' p q = p ∙ sym q
+pub Gear_Release : Determined Gear_Release_reads.Post
+Gear_Release κs a x y at at' p q = p ∙ sym q
 
-pub Error-Gear-Release : Determined Error-Gear-Release-reads.Post
-Error-Gear-Release κs a x y at at' p q = p ∙ sym q
+pub Error_Gear_Release : Determined Error_Gear_Release_reads.Post
+Error_Gear_Release κs a x y at at' p q = p ∙ sym q
 
-pub Gear-Request-Set : Determined Gear-Request-Set-reads.Post
-Gear-Request-Set κs a x y at at' p q = p ∙ sym q
+pub Gear_Request_Set : Determined Gear_Request_Set_reads.Post
+Gear_Request_Set κs a x y at at' p q = p ∙ sym q
 
-pub Gear-Set : Determined Gear-Set-reads.Post
-Gear-Set κs a x y at at' p q = p ∙ sym q
+pub Gear_Set : Determined Gear_Set_reads.Post
+Gear_Set κs a x y at at' p q = p ∙ sym q
 
-pub Error-Gear-Set : Determined Error-Gear-Set-reads.Post
-Error-Gear-Set κs a x y at at' p q = p ∙ sym q
+pub Error_Gear_Set : Determined Error_Gear_Set_reads.Post
+Error_Gear_Set κs a x y at at' p q = p ∙ sym q
 
-pub FINAL : Determined FINAL-reads.Post
+pub FINAL : Determined FINAL_reads.Post
 FINAL κs a x y at at' p q = p ∙ sym q
 
-pub RESET : Determined RESET-reads.Post
+pub RESET : Determined RESET_reads.Post
 RESET κs a x y at at' p q = p ∙ sym q

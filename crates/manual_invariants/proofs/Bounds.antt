@@ -24,10 +24,10 @@ use Rattle.manual.proofs.Places.{Place, phase_of, vars_at, has, orders, lasts, f
 use Rattle.manual.proofs.Ways.{goes, leads}
 use Rattle.manual.proofs.Places.Place.{rest, at, done, error}
 use Rattle.manual.proofs.Same.{steps}
-use Rattle.manual_agreement.proofs.Every.{every, in-each-phase, at-each-place, each, amount}
+use Rattle.manual_agreement.proofs.Every.{every, in_each_phase, at_each_place, each, amount}
 use Rattle.manual_agreement.proofs.Joined.{taken}
-use Rattle.manual_invariants.proofs.ListLaws.{Each, all, each→all, tail, each_tail, each_append, refused_by, none-refuses}
-use Rattle.manual_invariants.proofs.Standing.{StandsAt, at-start, goes-there, stands_on}
+use Rattle.manual_invariants.proofs.ListLaws.{Each, all, each→all, tail, each_tail, each_append, refused_by, none_refuses}
+use Rattle.manual_invariants.proofs.Standing.{StandsAt, at-start, goes_there, stands_on}
 
 -- ---- bounds
 
@@ -148,7 +148,7 @@ module _ (t : Table) (w : Variables) where
     resting false = refl
 
     at-a-place : (c : Place) → T (valid c) → found c ≡ wanted c
-    at-a-place = at-each-place found wanted resting shifting ended failed
+    at-a-place = at_each_place found wanted resting shifting ended failed
 
     -- of the guards of Tick_Tock on phases one is left, that of the place's phase
     abbrev phase_guards : ℕ → ℕ → List Bool
@@ -167,9 +167,9 @@ module _ (t : Table) (w : Variables) where
         let now = w.time + n in
         let others = refusing 13 (clock_limit now) ++ refusing 12 (stage_limits t (vars_at (at p g) w) now) in
         let phases = refused_by 11 (phase_guards p g) in
-        let e = in-each-phase (λ (k : ℕ) (j : ℕ). all (phase_guards k j)) (λ (k : ℕ) (j : ℕ). not_past n k && true) ticking p g h in
+        let e = in_each_phase (λ (k : ℕ) (j : ℕ). all (phase_guards k j)) (λ (k : ℕ) (j : ℕ). not_past n k && true) ticking p g h in
         subst T (sym (within now (began w p + limit_of t p false)))
-        (left (not_past n p) true (subst T e (each→all (phase_guards p g) (none-refuses 11 (phase_guards p g) tt (first-append 0 others phases tt z).1))))
+        (left (not_past n p) true (subst T e (each→all (phase_guards p g) (none_refuses 11 (phase_guards p g) tt (first-append 0 others phases tt z).1))))
 
   -- a take in an engine phase asks for EX, any other for no time
   taking :
@@ -184,7 +184,7 @@ module _ (t : Table) (w : Variables) where
       every (λ (k : ℕ). answered (stepped t (vars_at (at k 3) w) Take)) (λ (k : ℕ). first (refused_by 10 (in_ex k))) orders taking
       p (left (has p orders) (has g stages) h) in
       let y = subst (λ (j : ℕ). answered (stepped t (vars_at (at p j) w) Take) ≡ 0) (eqb→eq g 3 (passes (eqb g 3) e)) z in
-      none-refuses 10 (in_ex p) tt (sym a ∙ y)
+      none_refuses 10 (in_ex p) tt (sym a ∙ y)
 
   begins : (q : ℕ) → T (fresh q)
   begins q = le→leb w.time (w.time + limit_of t q false) (omega arith)
@@ -202,19 +202,19 @@ module _ (t : Table) (w : Variables) where
   due-at-take (done p) h e z i = i
   due-at-take (error p) h e z i = i
 
-  due-at-ask : (c : Place) → Each (tests c) → Each (due c AskClutch)
-  due-at-ask (rest b) i = i
-  due-at-ask (at p g) i = (begins (clutch_of p), i)
-  due-at-ask (done p) i = i
-  due-at-ask (error p) i = i
+  due_at_ask : (c : Place) → Each (tests c) → Each (due c AskClutch)
+  due_at_ask (rest b) i = i
+  due_at_ask (at p g) i = (begins (clutch_of p), i)
+  due_at_ask (done p) i = i
+  due_at_ask (error p) i = i
 
-  due-at-tick :
+  due_at_tick :
       (n : ℕ) (c : Place) → T (valid c) → answered (stepped t (vars_at c w) (Tick n)) ≡ 0 → Each (tests c)
       → Each (due c (Tick n))
-  due-at-tick n (rest b) h z i = i
-  due-at-tick n (at p g) h z i = (ticked n p g h z, i.1)
-  due-at-tick n (done p) h z i = i
-  due-at-tick n (error p) h z i = i
+  due_at_tick n (rest b) h z i = i
+  due_at_tick n (at p g) h z i = (ticked n p g h z, i.1)
+  due_at_tick n (done p) h z i = i
+  due_at_tick n (error p) h z i = i
 
   due-holds :
       (c : Place) (x : Step) → T (valid c) → goes c x ≡ true → answered (stepped t (vars_at c w) x) ≡ 0 → Each (tests c)
@@ -227,10 +227,10 @@ module _ (t : Table) (w : Variables) where
   due-holds c DeviceFailed h e z i = i
   due-holds c EngineWaits h e z i = i
   due-holds c Take h e z i = due-at-take c h e z i
-  due-holds c AskClutch h e z i = due-at-ask c i
+  due-holds c AskClutch h e z i = due_at_ask c i
   due-holds c RaiseError h e z i = each_tail (tests c) i
   due-holds c Finish h e z i = tt
-  due-holds c (Tick n) h e z i = due-at-tick n c h z i
+  due-holds c (Tick n) h e z i = due_at_tick n c h z i
   due-holds c Reset h e z i = tt
 
   keeps :
@@ -247,20 +247,20 @@ module _ (t : Table) (w : Variables) where
 pub record Timely (t : Table) (v : Variables) : Type 0 where
   pub place : Place
   pub stands : StandsAt place v
-  pub in-time : Each (map (test t v) (bounds place))
+  pub in_time : Each (map (test t v) (bounds place))
 
-pub timely-at-start : (t : Table) → Timely t initialisation
-timely-at-start t = record { place = rest true; stands = at-start; in-time = tt }
+pub timely_at_start : (t : Table) → Timely t initialisation
+timely_at_start t = record { place = rest true; stands = at-start; in_time = tt }
 
-pub timely-on : (t : Table) (v : Variables) (x : Step) → Timely t v → answered (stepped t v x) ≡ 0 → Timely t (stepped t v x).after
-timely-on t v x i z =
+pub timely_on : (t : Table) (v : Variables) (x : Step) → Timely t v → answered (stepped t v x) ≡ 0 → Timely t (stepped t v x).after
+timely_on t v x i z =
     let c = i.place in
     let s = i.stands in
-    let e = goes-there t v x c s z in
+    let e = goes_there t v x c s z in
     record {
       place = leads c x;
       stands = stands_on t v x c s e;
-      in-time =
+      in_time =
           subst (λ (u : Variables). Each (map (test t (stepped t u x).after) (bounds (leads c x)))) (sym s.variables)
-          (keeps t v c x s.valid-place e (subst (λ (u : Variables). answered (stepped t u x) ≡ 0) s.variables z) i.in-time);
+          (keeps t v c x s.valid-place e (subst (λ (u : Variables). answered (stepped t u x) ≡ 0) s.variables z) i.in_time);
     }

@@ -10,7 +10,7 @@ use Rattle.checks.proofs.Tests.{passes}
 use Rattle.manual.specs.declared.Variables.{Variables}
 use Rattle.manual.proofs.Places.{Place, vars_at, orders, lasts, fallible, stages, valid}
 use Rattle.manual.proofs.Places.Place.{rest, at, done, error}
-use Rattle.manual_agreement.proofs.Every.{at-each-place}
+use Rattle.manual_agreement.proofs.Every.{at_each_place}
 use Rattle.manual_invariants.specs.Invariants.{Invariant, Hold, FlagInvariants, m1, m5, m6, m7, m8, m9, ours}
 use Rattle.manual_invariants.proofs.ListLaws.{all, all→each, formulas, each→hold}
 use Rattle.manual_invariants.proofs.Standing.{StandsAt}
@@ -48,14 +48,14 @@ module _ (w : Variables) where
   resting b = refl
 
   at-a-place : (c : Place) → T (valid c) → found c ≡ wanted c
-  at-a-place = at-each-place found wanted resting shifting ended failed
+  at-a-place = at_each_place found wanted resting shifting ended failed
 
 holding : (is : List Invariant) → all (formulas is) ≡ true → Hold is
 holding is e = each→hold is (all→each (formulas is) (passes (all (formulas is)) e))
 
-pub flags-hold : (c : Place) (v : Variables) → StandsAt c v → FlagInvariants v
+pub flags_hold : (c : Place) (v : Variables) → StandsAt c v → FlagInvariants v
 unfolding found
-flags-hold c v i =
+flags_hold c v i =
     let e : tests v ≡ passing = subst (λ (u : Variables). tests u ≡ passing) (sym i.variables) (at-a-place v c i.valid-place) in
     record {
       m1 = holding (m1 v) (ap (λ l. get_or l 0 true) e);

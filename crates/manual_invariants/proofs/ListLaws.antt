@@ -52,8 +52,8 @@ tested : (k : ℕ) (bs : List Bool) → Holds (refused_by k bs) → Each bs
 tested k [] h = tt
 tested k (b ∷ bs) h = (h.0, tested k bs h.1)
 
-pub none-refuses : (k : ℕ) (bs : List Bool) → T (not (eqb k 0)) → first (refused_by k bs) ≡ 0 → Each bs
-none-refuses k bs h z = tested k bs (first→holds 0 (refused_by k bs) (numbered k bs h) z).0
+pub none_refuses : (k : ℕ) (bs : List Bool) → T (not (eqb k 0)) → first (refused_by k bs) ≡ 0 → Each bs
+none_refuses k bs h z = tested k bs (first→holds 0 (refused_by k bs) (numbered k bs h) z).0
 
 -- ---- invariants
 abbrev pub formulas : List Invariant → List Bool

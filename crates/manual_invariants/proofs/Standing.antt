@@ -23,7 +23,7 @@ use Rattle.manual.specs.Runs.{Outcome, after, run}
 use Rattle.manual.proofs.Places.{Place, vars_at, valid}
 use Rattle.manual.proofs.Ways.{goes, leads}
 use Rattle.manual.proofs.Places.Place.{rest}
-use Rattle.manual_agreement.proofs.Joined.{goes-where-accepted, same_after, still-valid}
+use Rattle.manual_agreement.proofs.Joined.{goes_where_accepted, same_after, still_valid}
 
 pub record StandsAt (c : Place) (v : Variables) : Type 0 where
   pub valid-place : T (valid c)
@@ -35,15 +35,15 @@ at-start = record { valid-place = tt; variables = refl }
 
 module _ (t : Table) (v : Variables) (x : Step) (c : Place) (i : StandsAt c v) where
   -- an accepted step is one that the place allows
-  pub goes-there : answered (stepped t v x) ≡ 0 → goes c x ≡ true
-  goes-there z =
+  pub goes_there : answered (stepped t v x) ≡ 0 → goes c x ≡ true
+  goes_there z =
       case (goes c x)
       (λ e. e)
-      (λ e. absurd (goes-where-accepted t v start c i.valid-place x (subst (λ (u : Variables). answered (stepped t u x) ≡ 0) i.variables z) e))
+      (λ e. absurd (goes_where_accepted t v start c i.valid-place x (subst (λ (u : Variables). answered (stepped t u x) ≡ 0) i.variables z) e))
 
   pub stands_on : goes c x ≡ true → StandsAt (leads c x) (stepped t v x).after
   stands_on e = record {
-    valid-place = still-valid t v start c i.valid-place x e;
+    valid-place = still_valid t v start c i.valid-place x e;
     variables =
         subst (λ (u : Variables). (stepped t u x).after ≡ vars_at (leads c x) (stepped t u x).after) (sym i.variables)
         (same_after t v start c i.valid-place x e);
@@ -61,23 +61,23 @@ module _ (t : Table) (P : Variables → Type 0) (keeps : (v : Variables) (x : St
   one_more (suc k) over v o i f = i
 
   -- what each accepted step keeps holds at the end of a run
-  pub run-keeps : (v : Variables) (rs : List Reading) → P v → P (run t v rs).variables
-  run-keeps v [] i = i
-  run-keeps v (r ∷ rs) i =
+  pub run_keeps : (v : Variables) (rs : List Reading) → P v → P (run t v rs).variables
+  run_keeps v [] i = i
+  run_keeps v (r ∷ rs) i =
       one_more (number_of t v r) (excess_of t v r) v (run t (led_to t v r) rs) i
-      (λ z. run-keeps (led_to t v r) rs (goes_on v r i z))
+      (λ z. run_keeps (led_to t v r) rs (goes_on v r i z))
 
   -- and after a call that answers as the definition of one step says
-  answered-so : (k over : ℕ) (v v' : Variables) → P v → (k ≡ 0 → P v') → P (move_to k over v' v).variables
-  answered-so zero over v v' i f = f refl
-  answered-so (suc k) over v v' i f = i
+  answered_so : (k over : ℕ) (v v' : Variables) → P v → (k ≡ 0 → P v') → P (move_to k over v' v).variables
+  answered_so zero over v v' i f = f refl
+  answered_so (suc k) over v v' i f = i
 
-  admitted-so : (k : ℕ) (m : Moved) (v : Variables) → P v → P m.variables → P (admitting k m v).variables
-  admitted-so zero m v i j = j
-  admitted-so (suc k) m v i j = i
+  admitted_so : (k : ℕ) (m : Moved) (v : Variables) → P v → P m.variables → P (admitting k m v).variables
+  admitted_so zero m v i j = j
+  admitted_so (suc k) m v i j = i
 
-  pub call-keeps : (v : Variables) (code middle n : ℕ) → P v → P (moved_on t v code middle n).variables
-  call-keeps v code middle n i =
+  pub call_keeps : (v : Variables) (code middle n : ℕ) → P v → P (moved_on t v code middle n).variables
+  call_keeps v code middle n i =
       let r = reading code middle n in
-      admitted-so (broken_rule t) (moved t v r) v i
-      (answered-so (number_of t v r) (excess_of t v r) v (led_to t v r) i (goes_on v r i))
+      admitted_so (broken_rule t) (moved t v r) v i
+      (answered_so (number_of t v r) (excess_of t v r) v (led_to t v r) i (goes_on v r i))

@@ -13,7 +13,7 @@ use Rattle.limits.specs.declared.Table.{Table}
 use Rattle.manual.specs.declared.Variables.{Variables}
 use Rattle.manual.proofs.Places.{Place, vars_at, orders, lasts, fallible, stages, valid}
 use Rattle.manual.proofs.Places.Place.{rest, at, done, error}
-use Rattle.manual_agreement.proofs.Every.{at-each-place}
+use Rattle.manual_agreement.proofs.Every.{at_each_place}
 use Rattle.manual_invariants.specs.Invariants.{TimeInvariants, m5_times, m6_times, m7_times, m8_times}
 use Rattle.manual_invariants.proofs.ListLaws.{Each, formulas, each→hold}
 use Rattle.manual_invariants.proofs.Bounds.{began, limit_of, Bound, bound, test, bounds, Timely}
@@ -108,11 +108,11 @@ follows bs k =
     let at_once = known (bound k.late k.early k.ex) bs in
     cond (eqb k.via 0) at_once (at_once || (known (bound k.late k.via false) bs && known (bound k.via k.early k.ex) bs))
 
-one-kind : (b c : Bool) → T (beq b c) → b ≡ c
-one-kind true true h = refl
-one-kind true false h = absurd h
-one-kind false true h = absurd h
-one-kind false false h = refl
+one_kind : (b c : Bool) → T (beq b c) → b ≡ c
+one_kind true true h = refl
+one_kind true false h = absurd h
+one_kind false true h = absurd h
+one_kind false false h = refl
 
 -- either way of writing a sum
 as_written : (b : Bool) (x y l : ℕ) → x ≤ y + l → T (leb x (cond b (l + y) (y + l)))
@@ -126,7 +126,7 @@ module _ (t : Table) (w : Variables) where
       let early = eqb a.early b.early in
       let kind = beq a.ex b.ex in
       let r = right late (early && kind) h in
-      rw (eqb→eq a.late b.late (left late (early && kind) h), eqb→eq a.early b.early (left early kind r), one-kind a.ex b.ex (right early kind r)) i
+      rw (eqb→eq a.late b.late (left late (early && kind) h), eqb→eq a.early b.early (left early kind r), one_kind a.ex b.ex (right early kind r)) i
 
   is_known : (a : Bound) (bs : List Bound) → T (known a bs) → Each (map (test t w) bs) → T (test t w a)
   is_known a [] h i = absurd h
@@ -157,12 +157,12 @@ module _ (t : Table) (w : Variables) where
       omega arith)
       (either direct (one && two) (rw e at h)))))
 
-  claims-hold :
+  claims_hold :
       (bs : List Bound) (ks : List Claim) → Each (map (test t w) bs)
       → Each (map (λ (k : Claim). cond (follows bs k) (claim t w k) true) ks)
-  claims-hold bs [] i = tt
-  claims-hold bs (k ∷ ks) i =
-      (case (follows bs k) (λ e. rw e (claim-holds bs k (passes (follows bs k) e) i)) (λ e. rw e tt), claims-hold bs ks i)
+  claims_hold bs [] i = tt
+  claims_hold bs (k ∷ ks) i =
+      (case (follows bs k) (λ e. rw e (claim-holds bs k (passes (follows bs k) e) i)) (λ e. rw e tt), claims_hold bs ks i)
 
 -- ---- at each place
 
@@ -197,16 +197,16 @@ module _ (t : Table) (w : Variables) where
   resting b = refl
 
   at-a-place : (c : Place) → T (valid c) → found c ≡ wanted c
-  at-a-place = at-each-place found wanted resting shifting ended failed
+  at-a-place = at_each_place found wanted resting shifting ended failed
 
-pub times-hold : (t : Table) (v : Variables) → Timely t v → TimeInvariants t v
+pub times_hold : (t : Table) (v : Variables) → Timely t v → TimeInvariants t v
 unfolding found wanted
-times-hold t v i =
+times_hold t v i =
     let c = i.place in
     let e : lists t v ≡ wanted t v c = subst (λ (u : Variables). lists t u ≡ wanted t v c) (sym i.stands.variables) (at-a-place t v c i.stands.valid-place) in
     record {
-      m5 = each→hold (m5_times t v) (subst Each (sym (ap (λ l. get_or l 0 []) e)) (claims-hold t v (bounds c) claims5 i.in-time));
-      m6 = each→hold (m6_times t v) (subst Each (sym (ap (λ l. get_or l 1 []) e)) (claims-hold t v (bounds c) claims6 i.in-time));
-      m7 = each→hold (m7_times t v) (subst Each (sym (ap (λ l. get_or l 2 []) e)) (claims-hold t v (bounds c) claims7 i.in-time));
-      m8 = each→hold (m8_times t v) (subst Each (sym (ap (λ l. get_or l 3 []) e)) (claims-hold t v (bounds c) claims8 i.in-time));
+      m5 = each→hold (m5_times t v) (subst Each (sym (ap (λ l. get_or l 0 []) e)) (claims_hold t v (bounds c) claims5 i.in_time));
+      m6 = each→hold (m6_times t v) (subst Each (sym (ap (λ l. get_or l 1 []) e)) (claims_hold t v (bounds c) claims6 i.in_time));
+      m7 = each→hold (m7_times t v) (subst Each (sym (ap (λ l. get_or l 2 []) e)) (claims_hold t v (bounds c) claims7 i.in_time));
+      m8 = each→hold (m8_times t v) (subst Each (sym (ap (λ l. get_or l 3 []) e)) (claims_hold t v (bounds c) claims8 i.in_time));
     }

@@ -11,8 +11,8 @@ use Rattle.limits.specs.Refusals.{Admitted}
 use Rattle.shift.specs.declared.State.{State}
 use Rattle.shift.specs.Refusals.{Formed}
 use Rattle.promises.specs.Answered.{Answered}
-use Rattle.promises.proofs.Errors.{an-error-is-final-until-a-reset}
-use Rattle.gateway.proofs.Answers.{a-record}
+use Rattle.promises.proofs.Errors.{an_error_is_final_until_a_reset}
+use Rattle.gateway.proofs.Answers.{a_record}
 use Rattle.munasirel.specs.contracts.munasirel_advance as advance
 use Rattle.munasirel.proofs.Determined.{Advanced}
 
@@ -42,12 +42,12 @@ module _
 
   -- the number is the first whose condition holds, and 0 where none does, and the excess is how far over the record is; refused, the
   -- lent state is as it was; accepted, it is the one that the step makes of it
-  pub the-running-judge-answers-in-the-document's-words : Answered table state code middle amount number excess state-after
-  the-running-judge-answers-in-the-document's-words =
-      rw (call.0, call.1, call.2) (a-record table state code middle given.1.1.1.1.0 given.1.1.1.1.1.0)
+  pub the_running_judge_answers_in_the_document's_words : Answered table state code middle amount number excess state-after
+  the_running_judge_answers_in_the_document's_words =
+      rw (call.0, call.1, call.2) (a_record table state code middle given.1.1.1.1.0 given.1.1.1.1.1.0)
 
   -- after an error every record but a tick and the reset is refused with 7
-  pub the-running-judge-after-an-error :
+  pub the_running_judge_after_an_error :
       state.phase ≡ 23 → Admitted table → Formed code middle amount → 1 ≤ code → code ≤ 11 → (number ≡ 7) × (state-after ≡ state)
-  the-running-judge-after-an-error e =
-      an-error-is-final-until-a-reset table state code middle amount e number excess state-after the-running-judge-answers-in-the-document's-words
+  the_running_judge_after_an_error e =
+      an_error_is_final_until_a_reset table state code middle amount e number excess state-after the_running_judge_answers_in_the_document's_words

@@ -1,5 +1,5 @@
 -- Demand 1 of the running judge over a block of records, and that a block is its records through `munasirel_advance` one by one, as
--- theorems over what the contract of `munasirel_advance_block` allows: `AdvancedBlock`, which `claimed-block` shows to be its own.
+-- theorems over what the contract of `munasirel_advance_block` allows: `AdvancedBlock`, which `claimed_block` shows to be its own.
 -- Assumes nothing.
 use mathlib.Core.Path.{◌≡◌, sym, ap, ◌∙◌}
 use mathlib.Core.List.{List, ◌∷◌}
@@ -15,11 +15,11 @@ use Rattle.shift.specs.declared.State.{State}
 use Rattle.shift.specs.Runs.{Outcome, ended as nothing_left, after}
 use Rattle.verdict.proofs.Verdicts.{outcome}
 use Rattle.gateway.specs.Advancing.{advanced_on, advancing}
-use Rattle.gateway.proofs.Answers.{a-record}
-use Rattle.gateway.proofs.Blocks.{a-block-is-its-records-one-by-one, no_record}
-use Rattle.gateway.proofs.BlockAnswers.{BlockAnswered, where-a-block-stops}
+use Rattle.gateway.proofs.Answers.{a_record}
+use Rattle.gateway.proofs.Blocks.{a_block_is_its_records_one_by_one, no_record}
+use Rattle.gateway.proofs.BlockAnswers.{BlockAnswered, where_a_block_stops}
 use Rattle.munasirel.specs.contracts.munasirel_advance as advance
-use Rattle.munasirel.specs.contracts.munasirel_advance_block as advance-block
+use Rattle.munasirel.specs.contracts.munasirel_advance_block as advance_block
 use Rattle.munasirel.proofs.Determined.{Advanced, AdvancedBlock}
 
 -- a call of `munasirel_advance` that is lent the state s and leaves s' and this excess
@@ -48,27 +48,27 @@ pub data OneByOne : Table → State → List ℕ → Outcome → Type 0 where
       → OneByOne t s (a ∷ b ∷ c ∷ d ∷ l) (after 0 over s o)
 
 module _ (t : Table) (s : State) (a b c d number over : ℕ) (s' : State) (one : Called t s a b c d number over s') where
-  its-number : number ≡ (advanced_on t s a b c d).number
-  its-number = one.call.0 ∙ ap (λ (r : State). (advanced_on t r a b c d).number) one.lent
+  its_number : number ≡ (advanced_on t s a b c d).number
+  its_number = one.call.0 ∙ ap (λ (r : State). (advanced_on t r a b c d).number) one.lent
 
-  its-state : s' ≡ (advanced_on t s a b c d).state
-  its-state = sym one.left ∙ one.call.1 ∙ ap (λ (r : State). (advanced_on t r a b c d).state) one.lent
+  its_state : s' ≡ (advanced_on t s a b c d).state
+  its_state = sym one.left ∙ one.call.1 ∙ ap (λ (r : State). (advanced_on t r a b c d).state) one.lent
 
-  its-excess : over ≡ (advanced_on t s a b c d).excess
-  its-excess = sym one.left_over ∙ one.call.2 ∙ ap (λ (r : State). (advanced_on t r a b c d).excess) one.lent
+  its_excess : over ≡ (advanced_on t s a b c d).excess
+  its_excess = sym one.left_over ∙ one.call.2 ∙ ap (λ (r : State). (advanced_on t r a b c d).excess) one.lent
 
-called-one-by-one : {t : Table} {s : State} {l : List ℕ} {o : Outcome} → OneByOne t s l o → o ≡ advancing t s l
-called-one-by-one (ended t s l h) = ap outcome (no_record t s l h) ∙ a-block-is-its-records-one-by-one t s l
-called-one-by-one (refused t s a b c d rest k over s' one) =
-    let n = its-number t s a b c d (suc k) over s' one in
-    let same = (a-record t s a b c d).refused (λ z. omega arith) in
-    rw (← n, its-state t s a b c d (suc k) over s' one, its-excess t s a b c d (suc k) over s' one, same)
-called-one-by-one (accepted t s a b c d rest over s' p one calls) =
-    rw (← its-number t s a b c d 0 over s' one, ← its-state t s a b c d 0 over s' one)
-    (ap (after 0 over s) (called-one-by-one calls))
+called_one_by_one : {t : Table} {s : State} {l : List ℕ} {o : Outcome} → OneByOne t s l o → o ≡ advancing t s l
+called_one_by_one (ended t s l h) = ap outcome (no_record t s l h) ∙ a_block_is_its_records_one_by_one t s l
+called_one_by_one (refused t s a b c d rest k over s' one) =
+    let n = its_number t s a b c d (suc k) over s' one in
+    let same = (a_record t s a b c d).refused (λ z. omega arith) in
+    rw (← n, its_state t s a b c d (suc k) over s' one, its_excess t s a b c d (suc k) over s' one, same)
+called_one_by_one (accepted t s a b c d rest over s' p one calls) =
+    rw (← its_number t s a b c d 0 over s' one, ← its_state t s a b c d 0 over s' one)
+    (ap (after 0 over s) (called_one_by_one calls))
 
 module _
-    (κs : Lfts 4) (given : Args advance-block.signature κs) (number : ℕ) (at : AtExit advance-block.ended κs)
+    (κs : Lfts 4) (given : Args advance_block.signature κs) (number : ℕ) (at : AtExit advance_block.ended κs)
     (call : AdvancedBlock κs given number at) where
   abbrev pub state : State
   state = given.0.now
@@ -90,14 +90,14 @@ module _
 
   -- the records that are counted are accepted and lead to the state; the one behind them, where the number is not 0, is refused by it
   -- on that state and so far over, and where it is 0 there is none
-  pub the-running-judge-answers-a-block-in-the-document's-words : BlockAnswered table state records number count excess state-after
-  the-running-judge-answers-a-block-in-the-document's-words =
-      rw (call.0, call.1, call.2, call.3) (where-a-block-stops table state records)
+  pub the_running_judge_answers_a_block_in_the_document's_words : BlockAnswered table state records number count excess state-after
+  the_running_judge_answers_a_block_in_the_document's_words =
+      rw (call.0, call.1, call.2, call.3) (where_a_block_stops table state records)
 
   -- a host that calls `munasirel_advance` for each record has the same count, the same number, the same excess and the same state
-  pub a-block-is-its-records-through-munasirel-advance :
+  pub a_block_is_its_records_through_munasirel_advance :
       (o : Outcome) → OneByOne table state records o
       → o ≡ record { count = count; number = number; excess = excess; state = state-after }
-  a-block-is-its-records-through-munasirel-advance o calls =
+  a_block_is_its_records_through_munasirel_advance o calls =
       rw (call.0, call.1, call.2, call.3)
-      (called-one-by-one calls ∙ sym (a-block-is-its-records-one-by-one table state records))
+      (called_one_by_one calls ∙ sym (a_block_is_its_records_one_by_one table state records))

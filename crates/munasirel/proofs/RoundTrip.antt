@@ -17,36 +17,36 @@ use Rattle.limits.specs.Refusals.{by_old_default}
 use Rattle.shift.specs.declared.Reading.{Reading}
 use Rattle.shift.specs.States.{start}
 use Rattle.shift.specs.Runs.{Outcome, run}
-use Rattle.promises.proofs.Defaults.{accepted-by-the-new-default}
+use Rattle.promises.proofs.Defaults.{accepted_by_the_new_default}
 use Rattle.stepfile.specs.declared.write.Wish.TheVariants.{Given, NoTable}
 use Rattle.stepfile.specs.declared.write.Written.{Written}
 use Rattle.stepfile.specs.Files.{table_in}
 use Rattle.stepfile.specs.Writing.{wished, first_wrong, refused_with, written_of, buffer_after}
 use Rattle.stepfile.specs.RoundTrip.{readings_by, OtherEntries}
-use Rattle.stepfile.proofs.RoundTripCalls.{Stands, TakenApart, StandsAgain, long_in_eighteen, StandsInEighteen, reads-back, gives-the-file-back, gives-the-file-in-eighteen}
-use Rattle.stepfile.proofs.WishForNone.{StandsForNone, none-reads-back, none-without-room}
+use Rattle.stepfile.proofs.RoundTripCalls.{Stands, TakenApart, StandsAgain, long_in_eighteen, StandsInEighteen, reads_back, gives_the_file_back, gives_the_file_in_eighteen}
+use Rattle.stepfile.proofs.WishForNone.{StandsForNone, none_reads_back, none_without_room}
 use Rattle.verdict.specs.declared.Verdict.{Verdict}
 use Rattle.verdict.specs.Verdicts.{of_run, verdict_of}
-use Rattle.verdict.proofs.WrittenFiles.{judged-as-given}
+use Rattle.verdict.proofs.WrittenFiles.{judged_as_given}
 use Rattle.munasirel.specs.Calls.{wish_of, written_for}
-use Rattle.munasirel.specs.contracts.munasirel_write as write-call
-use Rattle.munasirel.proofs.munasirel_write.Reads as write-reads
-use Rattle.munasirel.specs.contracts.munasirel_judge as judge-call
-use Rattle.munasirel.proofs.munasirel_judge.Reads as judge-reads
-use Rattle.munasirel.specs.contracts.munasirel_verdict as verdict-call
-use Rattle.munasirel.proofs.munasirel_verdict.Reads as verdict-reads
-use Rattle.munasirel.specs.contracts.munasirel_table as table-call
-use Rattle.munasirel.proofs.munasirel_table.Reads as table-reads
+use Rattle.munasirel.specs.contracts.munasirel_write as write_call
+use Rattle.munasirel.proofs.munasirel_write.Reads as write_reads
+use Rattle.munasirel.specs.contracts.munasirel_judge as judge_call
+use Rattle.munasirel.proofs.munasirel_judge.Reads as judge_reads
+use Rattle.munasirel.specs.contracts.munasirel_verdict as verdict_call
+use Rattle.munasirel.proofs.munasirel_verdict.Reads as verdict_reads
+use Rattle.munasirel.specs.contracts.munasirel_table as table_call
+use Rattle.munasirel.proofs.munasirel_table.Reads as table_reads
 
 -- the wish for none is the new default
-by-wish : (b : Bool) (t : Table) → wished (cond b NoTable (Given t)) ≡ cond b new_default t
-by-wish true t = refl
-by-wish false t = refl
+by_wish : (b : Bool) (t : Table) → wished (cond b NoTable (Given t)) ≡ cond b new_default t
+by_wish true t = refl
+by_wish false t = refl
 
 -- ---- of a call of `munasirel_write`, whatever its contract allows
 module _
-    (κs : Lfts 6) (given : Args write-call.signature κs) (number : ℕ) (left : AtExit write-call.ended κs)
-    (call : write-reads.Post κs given number left) where
+    (κs : Lfts 6) (given : Args write_call.signature κs) (number : ℕ) (left : AtExit write_call.ended κs)
+    (call : write_reads.Post κs given number left) where
   abbrev pub table : Table
   table = given.0
 
@@ -85,88 +85,88 @@ module _
   answered : answer ≡ written_for with-table table codes amounts before
   answered = rw (call.0, call.1, call.2, call.3)
 
-  pub munasirel-write-reads-back : number ≡ 0 → Stands judged-under steps answer.length before after
-  munasirel-write-reads-back z =
-      subst (λ t. Stands t steps answer.length before after) (by-wish (eqb with-table 0) table)
-      (reads-back (wished (wish_of with-table table)) codes amounts before after answer answered call.4 z)
+  pub munasirel_write_reads_back : number ≡ 0 → Stands judged-under steps answer.length before after
+  munasirel_write_reads_back z =
+      subst (λ t. Stands t steps answer.length before after) (by_wish (eqb with-table 0) table)
+      (reads_back (wished (wish_of with-table table)) codes amounts before after answer answered call.4 z)
 
   -- the table that is written is the file's
   module _ (f : List ℕ) (t : TakenApart f codes amounts) (e : judged-under ≡ table_in f) where
-    its-table : wished (wish_of with-table table) ≡ table_in f
-    its-table = by-wish (eqb with-table 0) table ∙ e
+    its_table : wished (wish_of with-table table) ≡ table_in f
+    its_table = by_wish (eqb with-table 0) table ∙ e
 
-    pub munasirel-write-gives-the-file-back : ¬ OtherEntries f → length f ≤ length before → StandsAgain f answer before after
-    munasirel-write-gives-the-file-back =
-        gives-the-file-back (wished (wish_of with-table table)) codes amounts before after answer answered call.4 f t its-table
+    pub munasirel_write_gives_the_file_back : ¬ OtherEntries f → length f ≤ length before → StandsAgain f answer before after
+    munasirel_write_gives_the_file_back =
+        gives_the_file_back (wished (wish_of with-table table)) codes amounts before after answer answered call.4 f t its_table
 
-    pub munasirel-write-gives-the-file-in-eighteen :
+    pub munasirel_write_gives_the_file_in_eighteen :
         OtherEntries f → long_in_eighteen f ≤ length before → StandsInEighteen f answer before after
-    munasirel-write-gives-the-file-in-eighteen =
-        gives-the-file-in-eighteen (wished (wish_of with-table table)) codes amounts before after answer answered call.4 f t its-table
+    munasirel_write_gives_the_file_in_eighteen =
+        gives_the_file_in_eighteen (wished (wish_of with-table table)) codes amounts before after answer answered call.4 f t its_table
 
   -- where none is wished
   module _ (none : with-table ≡ 0) where
-    its-wish : wish_of with-table table ≡ NoTable
-    its-wish = ap (λ k. wish_of k table) none
+    its_wish : wish_of with-table table ≡ NoTable
+    its_wish = ap (λ k. wish_of k table) none
 
-    its-answer : answer ≡ written_of new_default codes amounts (length before)
-    its-answer = answered ∙ ap (λ w. written_of (wished w) codes amounts (length before)) its-wish
+    its_answer : answer ≡ written_of new_default codes amounts (length before)
+    its_answer = answered ∙ ap (λ w. written_of (wished w) codes amounts (length before)) its_wish
 
-    its-buffer : after ≡ buffer_after new_default codes amounts before
-    its-buffer = call.4 ∙ ap (λ w. buffer_after (wished w) codes amounts before) its-wish
+    its_buffer : after ≡ buffer_after new_default codes amounts before
+    its_buffer = call.4 ∙ ap (λ w. buffer_after (wished w) codes amounts before) its_wish
 
-    pub munasirel-the-wish-for-none-reads-back : number ≡ 0 → StandsForNone codes amounts answer before after
-    munasirel-the-wish-for-none-reads-back = none-reads-back codes amounts before after answer its-answer its-buffer
+    pub munasirel_the_wish_for_none_reads_back : number ≡ 0 → StandsForNone codes amounts answer before after
+    munasirel_the_wish_for_none_reads_back = none_reads_back codes amounts before after answer its_answer its_buffer
 
-    pub munasirel-the-wish-for-none-without-room :
+    pub munasirel_the_wish_for_none_without_room :
         length codes ≡ length amounts → length codes ≤ 16372 → (first_wrong 0 codes amounts).number ≡ 0
         → length before < 48 + 4 * length codes
         → (answer ≡ refused_with 15 0 0) × (after ≡ before)
-    munasirel-the-wish-for-none-without-room = none-without-room codes amounts before after answer its-answer its-buffer
+    munasirel_the_wish_for_none_without_room = none_without_room codes amounts before after answer its_answer its_buffer
 
   -- ---- of calls on the bytes that it wrote
   abbrev pub bytes : List ℕ
   bytes = take answer.length after
 
   judged : number ≡ 0 → verdict_of bytes ≡ of_run (run judged-under start steps)
-  judged z = judged-as-given judged-under steps bytes (munasirel-write-reads-back z).file
+  judged z = judged_as_given judged-under steps bytes (munasirel_write_reads_back z).file
 
-  pub munasirel-judge-of-what-was-written :
+  pub munasirel_judge_of_what_was_written :
       number ≡ 0
-      → (κs' : Lfts 1) (lent : Args judge-call.signature κs') (r : ℕ) (left' : AtExit judge-call.ended κs')
-      → judge-reads.Post κs' lent r left' → lent.0.now ≡ bytes → r ≡ (run judged-under start steps).number
-  munasirel-judge-of-what-was-written z κs' lent r left' said e =
+      → (κs' : Lfts 1) (lent : Args judge_call.signature κs') (r : ℕ) (left' : AtExit judge_call.ended κs')
+      → judge_reads.Post κs' lent r left' → lent.0.now ≡ bytes → r ≡ (run judged-under start steps).number
+  munasirel_judge_of_what_was_written z κs' lent r left' said e =
       said ∙ ap (λ f. (verdict_of f).number) e ∙ ap (λ (v : Verdict). v.number) (judged z)
 
-  pub munasirel-verdict-of-what-was-written :
+  pub munasirel_verdict_of_what_was_written :
       number ≡ 0
-      → (κs' : Lfts 1) (lent : Args verdict-call.signature κs') (v : Verdict) (left' : AtExit verdict-call.ended κs')
-      → verdict-reads.Post κs' lent v left' → lent.0.now ≡ bytes → v ≡ of_run (run judged-under start steps)
-  munasirel-verdict-of-what-was-written z κs' lent v left' said e = said ∙ ap verdict_of e ∙ judged z
+      → (κs' : Lfts 1) (lent : Args verdict_call.signature κs') (v : Verdict) (left' : AtExit verdict_call.ended κs')
+      → verdict_reads.Post κs' lent v left' → lent.0.now ≡ bytes → v ≡ of_run (run judged-under start steps)
+  munasirel_verdict_of_what_was_written z κs' lent v left' said e = said ∙ ap verdict_of e ∙ judged z
 
   -- where none is wished and the old default accepts the list: it is accepted, with the same count and the same end
-  pub munasirel-accepted-for-none :
+  pub munasirel_accepted_for_none :
       number ≡ 0 → with-table ≡ 0 → (run by_old_default start steps).number ≡ 0
-      → (κs' : Lfts 1) (lent : Args verdict-call.signature κs') (v : Verdict) (left' : AtExit verdict-call.ended κs')
-      → verdict-reads.Post κs' lent v left' → lent.0.now ≡ bytes → v ≡ of_run (run by_old_default start steps)
-  munasirel-accepted-for-none z none a κs' lent v left' said e =
-      munasirel-verdict-of-what-was-written z κs' lent v left' said e
+      → (κs' : Lfts 1) (lent : Args verdict_call.signature κs') (v : Verdict) (left' : AtExit verdict_call.ended κs')
+      → verdict_reads.Post κs' lent v left' → lent.0.now ≡ bytes → v ≡ of_run (run by_old_default start steps)
+  munasirel_accepted_for_none z none a κs' lent v left' said e =
+      munasirel_verdict_of_what_was_written z κs' lent v left' said e
       ∙ ap (λ k. of_run (run (cond (eqb k 0) new_default table) start steps)) none
-      ∙ ap of_run (accepted-by-the-new-default steps a)
+      ∙ ap of_run (accepted_by_the_new_default steps a)
 
-  pub munasirel-judge-accepts-for-none :
+  pub munasirel_judge_accepts_for_none :
       number ≡ 0 → with-table ≡ 0 → (run by_old_default start steps).number ≡ 0
-      → (κs' : Lfts 1) (lent : Args judge-call.signature κs') (r : ℕ) (left' : AtExit judge-call.ended κs')
-      → judge-reads.Post κs' lent r left' → lent.0.now ≡ bytes → r ≡ 0
-  munasirel-judge-accepts-for-none z none a κs' lent r left' said e =
-      munasirel-judge-of-what-was-written z κs' lent r left' said e
+      → (κs' : Lfts 1) (lent : Args judge_call.signature κs') (r : ℕ) (left' : AtExit judge_call.ended κs')
+      → judge_reads.Post κs' lent r left' → lent.0.now ≡ bytes → r ≡ 0
+  munasirel_judge_accepts_for_none z none a κs' lent r left' said e =
+      munasirel_judge_of_what_was_written z κs' lent r left' said e
       ∙ ap (λ k. (run (cond (eqb k 0) new_default table) start steps).number) none
-      ∙ ap (λ (o : Outcome). o.number) (accepted-by-the-new-default steps a)
+      ∙ ap (λ (o : Outcome). o.number) (accepted_by_the_new_default steps a)
       ∙ a
 
-  pub munasirel-table-of-what-was-written :
+  pub munasirel_table_of_what_was_written :
       number ≡ 0
-      → (κs' : Lfts 1) (lent : Args table-call.signature κs') (t : Table) (left' : AtExit table-call.ended κs')
-      → table-reads.Post κs' lent t left' → lent.0.now ≡ bytes → t ≡ judged-under
-  munasirel-table-of-what-was-written z κs' lent t left' said e =
-      said ∙ ap table_in e ∙ (munasirel-write-reads-back z).file.table
+      → (κs' : Lfts 1) (lent : Args table_call.signature κs') (t : Table) (left' : AtExit table_call.ended κs')
+      → table_reads.Post κs' lent t left' → lent.0.now ≡ bytes → t ≡ judged-under
+  munasirel_table_of_what_was_written z κs' lent t left' said e =
+      said ∙ ap table_in e ∙ (munasirel_write_reads_back z).file.table

@@ -16,11 +16,11 @@ use Rattle.manual.specs.declared.Variables.{Variables}
 use Rattle.manual.specs.declared.Moved.{Moved}
 use Rattle.manual_agreement.specs.Agreement.{Reads}
 use Rattle.manual_agreement.proofs.Joined.{Joined}
-use Rattle.manual_agreement.proofs.Agreement.{Together, at-start, one-reading}
+use Rattle.manual_agreement.proofs.Agreement.{Together, at-start, one_reading}
 use Rattle.munasirel_m9.specs.contracts.munasirel_m9_start as m9-start
-use Rattle.munasirel_m9.proofs.munasirel_m9_start.Reads as m9-start-reads
-use Rattle.munasirel_m9.specs.contracts.munasirel_m9_advance as m9-advance
-use Rattle.munasirel_m9.proofs.munasirel_m9_advance.Reads as m9-advance-reads
+use Rattle.munasirel_m9.proofs.munasirel_m9_start.Reads as m9_start_reads
+use Rattle.munasirel_m9.specs.contracts.munasirel_m9_advance as m9_advance
+use Rattle.munasirel_m9.proofs.munasirel_m9_advance.Reads as m9_advance_reads
 use Rattle.munasirel.specs.contracts.munasirel_advance as advance
 use Rattle.munasirel.proofs.Determined as ours
 
@@ -35,8 +35,8 @@ pub record Bytes : Type 0 where
 -- lent
 pub record Called (v : Variables) (s : State) (t : Table) (b : Bytes) (m : Moved) (number over : ℕ) (s' : State) : Type 0 where
   pub κs : Lfts 0
-  pub at : AtExit m9-advance.ended κs
-  pub theirs : m9-advance-reads.Post κs (v, (t, (b.code, (b.middle, (b.low, (b.high, tt)))))) m at
+  pub at : AtExit m9_advance.ended κs
+  pub theirs : m9_advance_reads.Post κs (v, (t, (b.code, (b.middle, (b.low, (b.high, tt)))))) m at
   pub κs' : Lfts 2
   pub state : MutBor State
   pub excess : MutBor ℕ
@@ -49,7 +49,7 @@ pub record Called (v : Variables) (s : State) (t : Table) (b : Bytes) (m : Moved
 -- what a host holds after any calls from the starts on, be they accepted or refused: the variables of `munasirel_m9_start` and a state
 -- of zeros at first
 pub data Advanced : Variables → State → Type 0 where
-  started : (κs : Lfts 0) (v : Variables) (at : AtExit m9-start.ended κs) → m9-start-reads.Post κs tt v at → Advanced v start
+  started : (κs : Lfts 0) (v : Variables) (at : AtExit m9-start.ended κs) → m9_start_reads.Post κs tt v at → Advanced v start
   advanced :
       (v : Variables) (s : State) → Advanced v s → (t : Table) (b : Bytes) (m : Moved) (number over : ℕ) (s' : State)
       → Called v s t b m number over s' → Advanced m.variables s'
@@ -64,14 +64,14 @@ module _ (v : Variables) (s : State) (t : Table) (b : Bytes) (m : Moved) (number
   abbrev answer : State → Answer
   answer r = advanced_on t r b.code b.middle b.low b.high
 
-  our-number : number ≡ (answer s).number
-  our-number = subst (λ (r : State). number ≡ (answer r).number) c.lent c.ours.0
+  our_number : number ≡ (answer s).number
+  our_number = subst (λ (r : State). number ≡ (answer r).number) c.lent c.ours.0
 
-  our-state : s' ≡ (answer s).state
-  our-state = sym c.left ∙ subst (λ (r : State). c.at'.0.now ≡ (answer r).state) c.lent c.ours.1
+  our_state : s' ≡ (answer s).state
+  our_state = sym c.left ∙ subst (λ (r : State). c.at'.0.now ≡ (answer r).state) c.lent c.ours.1
 
-  our-excess : over ≡ (answer s).excess
-  our-excess =
+  our_excess : over ≡ (answer s).excess
+  our_excess =
       sym c.told
       ∙ subst (λ (r : State). c.at'.1.1.1.1.1.1.0.now ≡ (answer r).excess) c.lent c.ours.2
 
@@ -79,23 +79,23 @@ module _ (v : Variables) (s : State) (t : Table) (b : Bytes) (m : Moved) (number
   unfolding advanced_on
   together i =
       subst (λ (x : Moved). Together x (answer s)) (sym c.theirs)
-      (one-reading t v s (record_of b.code b.middle b.low b.high) i)
+      (one_reading t v s (record_of b.code b.middle b.low b.high) i)
 
-  joined-again : Joined v s → Joined m.variables s'
-  joined-again i = subst (λ (r : State). Joined m.variables r) (sym our-state) (together i).joined
+  joined_again : Joined v s → Joined m.variables s'
+  joined_again i = subst (λ (r : State). Joined m.variables r) (sym our_state) (together i).joined
 
   alike : Joined v s → Alike m number over s'
   alike i = record {
-    number = (together i).alike.number ∙ sym our-number;
-    excess = (together i).alike.excess ∙ sym our-excess;
-    reads = subst (λ (r : State). Reads m.variables r) (sym our-state) (together i).alike.reads;
+    number = (together i).alike.number ∙ sym our_number;
+    excess = (together i).alike.excess ∙ sym our_excess;
+    reads = subst (λ (r : State). Reads m.variables r) (sym our_state) (together i).alike.reads;
   }
 
 joined : {v : Variables} {s : State} → Advanced v s → Joined v s
 joined (started κs v at p) = subst (λ (x : Variables). Joined x start) (sym p) at-start
-joined (advanced v s a t b m number over s' c) = joined-again v s t b m number over s' c (joined a)
+joined (advanced v s a t b m number over s' c) = joined_again v s t b m number over s' c (joined a)
 
-pub every-record-is-answered-alike :
+pub every_record_is_answered_alike :
     (v : Variables) (s : State) → Advanced v s → (t : Table) (b : Bytes) (m : Moved) (number over : ℕ) (s' : State)
     → Called v s t b m number over s' → Alike m number over s'
-every-record-is-answered-alike v s a t b m number over s' c = alike v s t b m number over s' c (joined a)
+every_record_is_answered_alike v s a t b m number over s' c = alike v s t b m number over s' c (joined a)

@@ -25,17 +25,17 @@ sets-append l i (x ∷ xs) ys =
     sets-append s (suc i) xs ys ∙ ap (λ n. sets (sets s (suc i) xs) n ys) (omega arith)
 
 -- behind the end nothing is stored
-pub sets-out : (l : List ℕ) (i : ℕ) (vs : List ℕ) → length l ≤ i → sets l i vs ≡ l
-sets-out l i [] h = refl
-sets-out l i (v ∷ vs) h = ap (λ m. sets m (suc i) vs) (set_out l i v h) ∙ sets-out l (suc i) vs (omega arith)
+pub sets_out : (l : List ℕ) (i : ℕ) (vs : List ℕ) → length l ≤ i → sets l i vs ≡ l
+sets_out l i [] h = refl
+sets_out l i (v ∷ vs) h = ap (λ m. sets m (suc i) vs) (set_out l i v h) ∙ sets_out l (suc i) vs (omega arith)
 
 -- at the start of a list that has room
 pub at-start : (l vs : List ℕ) (n : ℕ) → length vs ≡ n → n ≤ length l → sets l 0 vs ≡ vs ++ drop n l
 at-start l vs n e h = sets-eq vs l 0 (omega arith) ∙ ap (λ k. vs ++ drop k l) (zero-add (length vs) ∙ e)
 
 -- two stores, of a number's two bytes, and one where the second lies behind the end
-pub two-stores : (l : List ℕ) (i a b : ℕ) → set (set l i a) (i + 1) b ≡ sets l i (a ∷ b ∷ [])
-two-stores l i a b = rw (add-one i)
+pub two_stores : (l : List ℕ) (i a b : ℕ) → set (set l i a) (i + 1) b ≡ sets l i (a ∷ b ∷ [])
+two_stores l i a b = rw (add-one i)
 
 pub one_store : (l : List ℕ) (i a b : ℕ) → length l ≤ i + 1 → set l i a ≡ sets l i (a ∷ b ∷ [])
 one_store l i a b h = let k = length-set l i a in sym (set_out (set l i a) (suc i) b (omega arith))

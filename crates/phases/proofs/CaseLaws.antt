@@ -22,9 +22,9 @@ abbrev pub NoneOf : List ℕ → ℕ → Type 0
 NoneOf [] p = Unit {0}
 NoneOf (k ∷ ks) p = NoneOf ks p × (p ≡ k → ⊥)
 
-no-case : (cases : List ℕ) (p : ℕ) → NoneOf cases p → OneOf cases p → ⊥
-no-case [] p r h = h
-no-case (k ∷ ks) p r h = ⊎_elim r.1 (no-case ks p r.0) h
+no_case : (cases : List ℕ) (p : ℕ) → NoneOf cases p → OneOf cases p → ⊥
+no_case [] p r h = h
+no_case (k ∷ ks) p r h = ⊎_elim r.1 (no_case ks p r.0) h
 
 -- a range in which f has one value but at the cases: what none of the cases has
 pub otherwise :
@@ -33,7 +33,7 @@ pub otherwise :
     → (p : ℕ) → i ≤ p → p < i + n → NoneOf cases p → v ≡ f p
 otherwise v f cases i n each p l h r =
     ⊎_elim
-    (λ c. absurd (no-case cases p r (found cases p c)))
+    (λ c. absurd (no_case cases p r (found cases p c)))
     (λ z. eqb→eq v (f p) z)
     (either (has cases p) (eqb v (f p)) (from (λ k. T (has cases k || eqb v (f k))) i n each p l h))
 

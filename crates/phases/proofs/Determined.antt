@@ -2,51 +2,51 @@
 -- Assumes nothing.
 use mathlib.Core.Path.{sym, ◌∙◌}
 use Rattle.checks.specs.Determined.{Determined}
-use Rattle.phases.proofs.next_of.Reads as next-of-reads
-use Rattle.phases.proofs.clutch_of.Reads as clutch-of-reads
-use Rattle.phases.proofs.order_of.Reads as order-of-reads
-use Rattle.phases.proofs.device_entry.Reads as device-entry-reads
-use Rattle.phases.proofs.phase_entry.Reads as phase-entry-reads
-use Rattle.phases.proofs.device_limit.Reads as device-limit-reads
-use Rattle.phases.proofs.phase_limit.Reads as phase-limit-reads
-use Rattle.phases.proofs.latest_take.Reads as latest-take-reads
-use Rattle.phases.proofs.earliest_ask.Reads as earliest-ask-reads
-use Rattle.phases.proofs.plain_delay.Reads as plain-delay-reads
-use Rattle.phases.proofs.error_delay.Reads as error-delay-reads
-use Rattle.phases.proofs.is_unfinished.Reads as is-unfinished-reads
+use Rattle.phases.proofs.next_of.Reads as next_of_reads
+use Rattle.phases.proofs.clutch_of.Reads as clutch_of_reads
+use Rattle.phases.proofs.order_of.Reads as order_of_reads
+use Rattle.phases.proofs.device_entry.Reads as device_entry_reads
+use Rattle.phases.proofs.phase_entry.Reads as phase_entry_reads
+use Rattle.phases.proofs.device_limit.Reads as device_limit_reads
+use Rattle.phases.proofs.phase_limit.Reads as phase_limit_reads
+use Rattle.phases.proofs.latest_take.Reads as latest_take_reads
+use Rattle.phases.proofs.earliest_ask.Reads as earliest_ask_reads
+use Rattle.phases.proofs.plain_delay.Reads as plain_delay_reads
+use Rattle.phases.proofs.error_delay.Reads as error_delay_reads
+use Rattle.phases.proofs.is_unfinished.Reads as is_unfinished_reads
 
-pub next_of : Determined next-of-reads.Post
+pub next_of : Determined next_of_reads.Post
 next_of κs a x y at at' p q = p ∙ sym q
 
-pub clutch-of : Determined clutch-of-reads.Post
-clutch-of κs a x y at at' p q = p ∙ sym q
+pub clutch_of : Determined clutch_of_reads.Post
+clutch_of κs a x y at at' p q = p ∙ sym q
 
-pub order-of : Determined order-of-reads.Post
-order-of κs a x y at at' p q = p ∙ sym q
+pub order_of : Determined order_of_reads.Post
+order_of κs a x y at at' p q = p ∙ sym q
 
-pub device-entry : Determined device-entry-reads.Post
+pub device-entry : Determined device_entry_reads.Post
 device-entry κs a x y at at' p q = p ∙ sym q
 
-pub phase-entry : Determined phase-entry-reads.Post
+pub phase-entry : Determined phase_entry_reads.Post
 phase-entry κs a x y at at' p q = p ∙ sym q
 
-pub device-limit : Determined device-limit-reads.Post
+pub device-limit : Determined device_limit_reads.Post
 device-limit κs a x y at at' p q = p ∙ sym q
 
-pub phase-limit : Determined phase-limit-reads.Post
+pub phase-limit : Determined phase_limit_reads.Post
 phase-limit κs a x y at at' p q = p ∙ sym q
 
-pub latest-take : Determined latest-take-reads.Post
-latest-take κs a x y at at' p q = p ∙ sym q
+pub latest_take : Determined latest_take_reads.Post
+latest_take κs a x y at at' p q = p ∙ sym q
 
-pub earliest-ask : Determined earliest-ask-reads.Post
-earliest-ask κs a x y at at' p q = p ∙ sym q
+pub earliest_ask : Determined earliest_ask_reads.Post
+earliest_ask κs a x y at at' p q = p ∙ sym q
 
-pub plain-delay : Determined plain-delay-reads.Post
-plain-delay κs a x y at at' p q = p ∙ sym q
+pub plain_delay_lem : Determined plain_delay_reads.Post
+plain_delay_lem κs a x y at at' p q = p ∙ sym q
 
-pub error-delay : Determined error-delay-reads.Post
-error-delay κs a x y at at' p q = p ∙ sym q
+pub error_delay_lem : Determined error_delay_reads.Post
+error_delay_lem κs a x y at at' p q = p ∙ sym q
 
-pub is-unfinished : Determined is-unfinished-reads.Post
-is-unfinished κs a x y at at' p q = p ∙ sym q
+pub is_unfinished : Determined is_unfinished_reads.Post
+is_unfinished κs a x y at at' p q = p ∙ sym q

@@ -12,8 +12,8 @@ use Rattle.checks.proofs.Ranges.{below, from}
 use Rattle.phases.specs.Phases.{order_of, next_of, clutch_of, unfinished, limit_by}
 
 -- past the last order there is no entry
-pub no-limit : (numbers : List ℕ) (t : Table) (o : ℕ) → length numbers ≤ o → 0 ≡ limit_by numbers t o
-no-limit numbers t o h = rw (get_or-eq_default numbers 22 h)
+pub no_limit : (numbers : List ℕ) (t : Table) (o : ℕ) → length numbers ≤ o → 0 ≡ limit_by numbers t o
+no_limit numbers t o h = rw (get_or-eq_default numbers 22 h)
 
 -- phases 1 to 21 have an order
 pub ordered : (p : ℕ) → 1 ≤ p → p < 22 → 1 ≤ order_of p
@@ -27,9 +27,9 @@ orders = below _ 24 (omega arith)
 pub next-listed : (p : ℕ) → p < 24 → next_of p ≤ 23
 next-listed = below _ 24 (omega arith)
 
-pub clutch-listed : (p : ℕ) → p < 24 → clutch_of p ≤ 23
-clutch-listed = below _ 24 (omega arith)
+pub clutch_listed : (p : ℕ) → p < 24 → clutch_of p ≤ 23
+clutch_listed = below _ 24 (omega arith)
 
 -- an unfinished phase is one of 1 to 21
-pub unfinished-in : (p : ℕ) → T (unfinished p) → (1 ≤ p) × (p ≤ 21)
-unfinished-in p h = (leb→le 1 p (left (leb 1 p) (leb p 21) h), leb→le p 21 (right (leb 1 p) (leb p 21) h))
+pub unfinished_in : (p : ℕ) → T (unfinished p) → (1 ≤ p) × (p ≤ 21)
+unfinished_in p h = (leb→le 1 p (left (leb 1 p) (leb p 21) h), leb→le p 21 (right (leb 1 p) (leb p 21) h))

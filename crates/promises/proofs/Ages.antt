@@ -73,19 +73,19 @@ abbrev pub InTime : Table → Kind → State → Type 0
 InTime t k s = 1 ≤ s.phase → s.phase ≤ 21 → Timed t k s.phase s.clock s.phase_time s.request_time
 
 -- ---- the phase table: the next phase is one of the kind's, and is entered in time
-next-of-kind :
+next_of_kind :
     (k : Kind) (p : ℕ) → first_phase k ≤ p → p < 1 + last_phase k → next_of p ≤ 21
     → (first_phase k ≤ next_of p) × (next_of p ≤ last_phase k)
-next-of-kind from_neutral = from _ 1 5 (omega arith)
-next-of-kind gear_to_gear = from _ 6 11 (omega arith)
-next-of-kind to_neutral = from _ 17 5 (omega arith)
+next_of_kind from_neutral = from _ 1 5 (omega arith)
+next_of_kind gear_to_gear = from _ 6 11 (omega arith)
+next_of_kind to_neutral = from _ 17 5 (omega arith)
 
-clutch-of-kind :
+clutch_of_kind :
     (k : Kind) (p : ℕ) → first_phase k ≤ p → p < 1 + last_phase k → order_of p ≤ 2
     → (first_phase k ≤ clutch_of p) × (clutch_of p ≤ last_phase k)
-clutch-of-kind from_neutral = from _ 1 5 (omega arith)
-clutch-of-kind gear_to_gear = from _ 6 11 (omega arith)
-clutch-of-kind to_neutral = from _ 17 5 (omega arith)
+clutch_of_kind from_neutral = from _ 1 5 (omega arith)
+clutch_of_kind gear_to_gear = from _ 6 11 (omega arith)
+clutch_of_kind to_neutral = from _ 17 5 (omega arith)
 
 module _ (t : Table) (c e r : ℕ) where
   taken :
@@ -94,15 +94,15 @@ module _ (t : Table) (c e r : ℕ) where
       → c ≤ r + spent t (next_of p)
   taken = from _ 1 21 (omega arith)
 
-  asked-for :
+  asked_for :
       (p : ℕ) → 1 ≤ p → p < 22
       → (e ≤ r + spent t p) × (c ≤ e + phase_limit t (order_of p)) × (order_of p ≤ 2)
       → c ≤ r + spent t (clutch_of p)
-  asked-for = from _ 1 21 (omega arith)
+  asked_for = from _ 1 21 (omega arith)
 
 -- entering a phase other than 0 keeps the request time
-request-kept : (q r : ℕ) → 1 ≤ q → cond (eqb q 0) 0 r ≡ r
-request-kept q r h = rw (ne_eqb q 0 (omega arith))
+request_kept : (q r : ℕ) → 1 ≤ q → cond (eqb q 0) 0 r ≡ r
+request_kept q r h = rw (ne_eqb q 0 (omega arith))
 
 -- ---- every accepted step keeps it
 module _ (t : Table) (k : Kind) (s : State) (i : InTime t k s) where
@@ -116,14 +116,14 @@ module _ (t : Table) (k : Kind) (s : State) (i : InTime t k s) where
   kept EngineWaits h = i
   kept Take h = λ l m.
       let j = i (omega (arith, tests)) (omega (arith, tests)) in
-      let n = next-of-kind k s.phase j.first (omega arith) m in
+      let n = next_of_kind k s.phase j.first (omega arith) m in
       let e = taken t s.clock s.phase_time s.request_time s.phase (omega (arith, tests)) (omega (arith, tests)) (omega (arith, tests)) in
-      rw (request-kept (next_of s.phase) s.request_time l) (omega arith)
+      rw (request_kept (next_of s.phase) s.request_time l) (omega arith)
   kept AskClutch h = λ l m.
       let j = i (omega (arith, tests)) (omega (arith, tests)) in
-      let n = clutch-of-kind k s.phase j.first (omega arith) (omega (arith, tests)) in
-      let e = asked-for t s.clock s.phase_time s.request_time s.phase (omega (arith, tests)) (omega (arith, tests)) (omega (arith, tests)) in
-      rw (request-kept (clutch_of s.phase) s.request_time l) (omega arith)
+      let n = clutch_of_kind k s.phase j.first (omega arith) (omega (arith, tests)) in
+      let e = asked_for t s.clock s.phase_time s.request_time s.phase (omega (arith, tests)) (omega (arith, tests)) (omega (arith, tests)) in
+      rw (request_kept (clutch_of s.phase) s.request_time l) (omega arith)
   kept RaiseError h = omega arith
   kept Finish h = omega arith
   kept (Tick n) h = λ l m.
@@ -132,17 +132,17 @@ module _ (t : Table) (k : Kind) (s : State) (i : InTime t k s) where
       omega (arith, tests)
   kept Reset h = omega arith
 
-  pub kept-in-time : (r : Reading) → guard t s r ≡ 0 → InTime t (kind_after k r) (led s r)
-  kept-in-time = each_step (λ r. InTime t (kind_after k r) (led s r)) t s kept
+  pub kept_in_time : (r : Reading) → guard t s r ≡ 0 → InTime t (kind_after k r) (led s r)
+  kept_in_time = each_step (λ r. InTime t (kind_after k r) (led s r)) t s kept
 
 -- every accepted list leads to it
-pub in-time :
+pub in_time :
     (t : Table) (k : Kind) (s : State) (rs : List Reading) → InTime t k s → (run t s rs).number ≡ 0
     → InTime t (last_kind k rs) (run t s rs).state
-in-time t k s [] i e = i
-in-time t k s (r ∷ rs) i e =
+in_time t k s [] i e = i
+in_time t k s (r ∷ rs) i e =
     let w = went_on (guard t s r) _ s (run t (led s r) rs) e in
-    rw w.0 (in-time t (kind_after k r) (led s r) rs (kept-in-time t k s i r w.0) w.1)
+    rw w.0 (in_time t (kind_after k r) (led s r) rs (kept_in_time t k s i r w.0) w.1)
 
 -- ---- under an admitted table the sum of the kind covers it, and the limit for a whole change covers the sum
 module _ (t : Table) (admitted : broken_rule t ≡ 0) where
@@ -152,7 +152,7 @@ module _ (t : Table) (admitted : broken_rule t ≡ 0) where
   covered gear_to_gear = let h = (first→holds 0 (numbered 1 (rules t)) tt admitted).0 in from _ 6 11 (omega (arith, tests))
   covered to_neutral = let h = (first→holds 0 (numbered 1 (rules t)) tt admitted).0 in from _ 17 5 (omega (arith, tests))
 
-  pub sums-admitted : (k : Kind) → sum_of t k ≤ t.change_dl
-  sums-admitted from_neutral = let h = (first→holds 0 (numbered 1 (rules t)) tt admitted).0 in omega (arith, tests)
-  sums-admitted gear_to_gear = let h = (first→holds 0 (numbered 1 (rules t)) tt admitted).0 in omega (arith, tests)
-  sums-admitted to_neutral = let h = (first→holds 0 (numbered 1 (rules t)) tt admitted).0 in omega (arith, tests)
+  pub sums_admitted : (k : Kind) → sum_of t k ≤ t.change_dl
+  sums_admitted from_neutral = let h = (first→holds 0 (numbered 1 (rules t)) tt admitted).0 in omega (arith, tests)
+  sums_admitted gear_to_gear = let h = (first→holds 0 (numbered 1 (rules t)) tt admitted).0 in omega (arith, tests)
+  sums_admitted to_neutral = let h = (first→holds 0 (numbered 1 (rules t)) tt admitted).0 in omega (arith, tests)

@@ -14,7 +14,7 @@ use Rattle.checks.proofs.Tests.{case}
 use Rattle.limits.specs.declared.Table.{Table}
 use Rattle.limits.specs.Rules.{broken_rule}
 use Rattle.limits.specs.Refusals.{broken}
-use Rattle.limits.proofs.Refusals.{in_order, admitted-in-the-document's-words}
+use Rattle.limits.proofs.Refusals.{in_order, admitted_in_the_document's_words}
 use Rattle.phases.specs.ByPhase.{has}
 use Rattle.phases.proofs.ByPhaseLaws.{found}
 use Rattle.shift.specs.declared.State.{State}
@@ -32,8 +32,8 @@ use Rattle.promises.specs.HowFar.{HowFar}
 use Rattle.promises.specs.Answered.{Answered}
 use Rattle.promises.proofs.Permitted.{permitted}
 use Rattle.promises.proofs.EffectLaws.{effects}
-use Rattle.promises.proofs.RefusalLaws.{no-request, never-early, first-refusal}
-use Rattle.promises.proofs.ExcessLaws.{nothing, how-far, no-other-excess}
+use Rattle.promises.proofs.RefusalLaws.{no_request, never-early, first-refusal}
+use Rattle.promises.proofs.ExcessLaws.{nothing, how_far, no_other_excess}
 
 -- ---- number, excess and state of an answer, by the broken rule k and the guard's g
 module _ (over : ℕ) (next s : State) where
@@ -49,10 +49,10 @@ module _ (over : ℕ) (next s : State) where
   given_back zero (suc g) n = refl
   given_back (suc k) g n = refl
 
-  gone-on : (k g : ℕ) → (admitting k (answer g over next s) s).number ≡ 0 → (g ≡ 0) × ((admitting k (answer g over next s) s).state ≡ next)
-  gone-on zero zero z = (refl, refl)
-  gone-on zero (suc g) z = absurd (omega arith)
-  gone-on (suc k) g z = absurd (omega arith)
+  gone_on : (k g : ℕ) → (admitting k (answer g over next s) s).number ≡ 0 → (g ≡ 0) × ((admitting k (answer g over next s) s).state ≡ next)
+  gone_on zero zero z = (refl, refl)
+  gone_on zero (suc g) z = absurd (omega arith)
+  gone_on (suc k) g z = absurd (omega arith)
 
   ruled : (k g : ℕ) → (admitting k (answer g over next s) s).rule ≡ k
   ruled zero zero = refl
@@ -119,18 +119,18 @@ module _ (t : Table) (s : State) (code middle amount : ℕ) where
       let r = reading code middle amount in
       let over = excess t s r (guard t s r) in
       let read = reads middle amount code in record {
-        first = numbered over (led s r) s (broken_rule t) (guard t s r) (record_refusals t s code middle amount) (admitted-in-the-document's-words t) (first-refusal t s code middle amount);
-        how-far = far over (led s r) s t code amount (broken_rule t) (guard t s r) (how-far t s code middle amount r read);
+        first = numbered over (led s r) s (broken_rule t) (guard t s r) (record_refusals t s code middle amount) (admitted_in_the_document's_words t) (first-refusal t s code middle amount);
+        how_far = far over (led s r) s t code amount (broken_rule t) (guard t s r) (how_far t s code middle amount r read);
         refused = given_back over (led s r) s (broken_rule t) (guard t s r);
         accepted = λ z.
-            let w = gone-on over (led s r) s (broken_rule t) (guard t s r) z in
+            let w = gone_on over (led s r) s (broken_rule t) (guard t s r) z in
             let m = makes r read w.0 in
             (m.0, m.1, m.2, rw w.1 m.3);
       }
 
   -- the rule is the one that the table breaks
-  pub with-its-rule : FirstOf (broken t) given.rule
-  with-its-rule =
+  pub with_its_rule : FirstOf (broken t) given.rule
+  with_its_rule =
       let r = reading code middle amount in
       subst (FirstOf (broken t)) (sym (ruled (excess t s r (guard t s r)) (led s r) s (broken_rule t) (guard t s r))) (in_order t)
 
@@ -154,13 +154,13 @@ module _ (t : Table) (s : State) (code middle amount : ℕ) where
       let e = excess t s r g in
       let same = no_other (refusals t s code middle amount) number given.number h.first answered.first in (
         same,
-        no-other-excess t s code amount given.number over given.excess
-            (subst (λ (n : ℕ). HowFar t s code amount n over) same h.how-far)
-            answered.how-far,
+        no_other_excess t s code amount given.number over given.excess
+            (subst (λ (n : ℕ). HowFar t s code amount n over) same h.how_far)
+            answered.how_far,
         case (eqb number 0)
             (λ q.
             let z = eqb-true number 0 q in
-            let w = gone-on e (led s r) s k g (sym same ∙ z) in
+            let w = gone_on e (led s r) s k g (sym same ∙ z) in
             let m = h.accepted z in
             made r (reads middle amount code) w.0 m.0 m.1 m.2 s' m.3 ∙ sym w.1)
             (λ q.
@@ -182,14 +182,14 @@ kept ks (w ∷ ws) n k f =
     f
 
 module _ (t : Table) (s : State) (middle amount number : ℕ) where
-  pub of-a-tick : FirstOf (refusals t s 12 middle amount) number → OneOf (0 ∷ 4 ∷ 6 ∷ 7 ∷ 13 ∷ 12 ∷ 11 ∷ []) number
-  of-a-tick =
+  pub of_a_tick : FirstOf (refusals t s 12 middle amount) number → OneOf (0 ∷ 4 ∷ 6 ∷ 7 ∷ 13 ∷ 12 ∷ 11 ∷ []) number
+  of_a_tick =
       kept (4 ∷ 6 ∷ 7 ∷ 13 ∷ 12 ∷ 11 ∷ []) (refusals t s 12 middle amount) number
-      (inl tt, (inr (a-code 12 (omega arith) (omega arith)), (inl tt, (inl tt, (inr (no-request t s amount 12 (omega arith)), (inr (never-early t s amount 12 (omega arith)), (inr (λ h. let e = h.0 in omega arith), (inl tt, (inl tt, (inl tt, tt))))))))))
+      (inl tt, (inr (a-code 12 (omega arith) (omega arith)), (inl tt, (inl tt, (inr (no_request t s amount 12 (omega arith)), (inr (never-early t s amount 12 (omega arith)), (inr (λ h. let e = h.0 in omega arith), (inl tt, (inl tt, (inl tt, tt))))))))))
 
-  pub of-another-step :
+  pub of_another_step :
       (code : ℕ) → ¬ (code ≡ 12) → FirstOf (refusals t s code middle amount) number
       → OneOf (0 ∷ 4 ∷ 5 ∷ 6 ∷ 7 ∷ 8 ∷ 9 ∷ 10 ∷ []) number
-  of-another-step code n =
+  of_another_step code n =
       kept (4 ∷ 5 ∷ 6 ∷ 7 ∷ 8 ∷ 9 ∷ 10 ∷ []) (refusals t s code middle amount) number
       (inl tt, (inl tt, (inl tt, (inl tt, (inl tt, (inl tt, (inl tt, (inr (λ h. n h.0), (inr (λ h. n h.0), (inr (λ h. n h.0), tt))))))))))

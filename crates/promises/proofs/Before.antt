@@ -23,15 +23,15 @@ use Rattle.shift.specs.States.{start}
 use Rattle.shift.specs.Steps.{allowed, rests_in, boxed}
 use Rattle.shift.specs.Answers.{listed, checks_of, checks, guard, led}
 use Rattle.shift.specs.Runs.{Outcome, after, run_by, run}
-use Rattle.shift.proofs.ListedLaws.{left-to-check, stays-listed}
+use Rattle.shift.proofs.ListedLaws.{left_to_check, stays_listed}
 use Rattle.promises.specs.Before.{led_before, WithoutReset, Agree}
 use Rattle.promises.proofs.Runs.{each_step}
-use Rattle.promises.proofs.Boxes.{boxes, side, Stands, kept-standing}
+use Rattle.promises.proofs.Boxes.{boxes, side, Stands, kept_standing}
 
 -- the old box beside today's: the same at rest and in 22
 record Same (p old box : ℕ) : Type 0 where
   at_rest : p ≡ 0 → old ≡ box
-  in-22 : p ≡ 22 → old ≡ box
+  in_22 : p ≡ 22 → old ≡ box
 
 -- the old box beside today's state, whose box stands by phase
 record Beside (old : ℕ) (s : State) : Type 0 where
@@ -68,9 +68,9 @@ module _ (t : Table) (old : ℕ) (s : State) (b : Beside old s) where
   same-guard : (r : Reading) → guard t (boxed old s) r ≡ guard t s r
   same-guard r =
       let h = b.holds in
-      sym (left-to-check t (boxed old s) (h.0, (h.1.0, (b.old-holds, tt))) r)
+      sym (left_to_check t (boxed old s) (h.0, (h.1.0, (b.old-holds, tt))) r)
       ∙ same-checks r
-      ∙ left-to-check t s h r
+      ∙ left_to_check t s h r
 
 -- ---- the old box after a step
 abbrev next : ℕ → State → Reading → ℕ
@@ -109,8 +109,8 @@ stays : (p old : ℕ) → moved p p old ≡ old
 stays p old = case (eqb p 22) (λ e. rw e) (λ e. rw e)
 
 -- by the phase table: an order that is taken leads to a phase of the shift or, with the same box, to 22; an ask to a phase of the shift
-no-rest : (p : ℕ) → 1 ≤ p → p < 22 → ¬ (next_of p ≡ 0)
-no-rest = from _ 1 21 (omega arith)
+no_rest : (p : ℕ) → 1 ≤ p → p < 22 → ¬ (next_of p ≡ 0)
+no_rest = from _ 1 21 (omega arith)
 
 taken :
     (old box p : ℕ) → 1 ≤ p → p < 22 → (box ≡ get_or boxes p 0) × (next_of p ≡ 22) → moved p (next_of p) old ≡ side box p
@@ -119,8 +119,8 @@ taken old box = from _ 1 21 (omega arith)
 asked : (p : ℕ) → 1 ≤ p → p < 22 → order_of p ≤ 2 → ¬ (clutch_of p ≡ 0)
 asked = from _ 1 21 (omega arith)
 
-asked-on : (p : ℕ) → 1 ≤ p → p < 22 → order_of p ≤ 2 → ¬ (clutch_of p ≡ 22)
-asked-on = from _ 1 21 (omega arith)
+asked_on : (p : ℕ) → 1 ≤ p → p < 22 → order_of p ≤ 2 → ¬ (clutch_of p ≡ 22)
+asked_on = from _ 1 21 (omega arith)
 
 module _ (t : Table) (old : ℕ) (s : State) (b : Beside old s) where
   unmoved : Same s.phase (moved s.phase s.phase old) s.gear_box
@@ -137,27 +137,27 @@ module _ (t : Table) (old : ℕ) (s : State) (b : Beside old s) where
   kept Take h n =
       let l : 1 ≤ s.phase = omega (arith, tests) in
       let m : s.phase ≤ 21 = omega (arith, tests) in record {
-        at_rest = λ e. absurd (no-rest s.phase l (omega arith) e);
-        in-22 = λ e. taken old s.gear_box s.phase l (omega arith) (b.stands l m, e);
+        at_rest = λ e. absurd (no_rest s.phase l (omega arith) e);
+        in_22 = λ e. taken old s.gear_box s.phase l (omega arith) (b.stands l m, e);
       }
   kept AskClutch h n =
       let l : 1 ≤ s.phase = omega (arith, tests) in
       let m : s.phase < 22 = omega (arith, tests) in
       let o : order_of s.phase ≤ 2 = omega (arith, tests) in
-      record { at_rest = λ e. absurd (asked s.phase l m o e); in-22 = λ e. absurd (asked-on s.phase l m o e) }
+      record { at_rest = λ e. absurd (asked s.phase l m o e); in_22 = λ e. absurd (asked_on s.phase l m o e) }
   kept RaiseError h n = omega arith
   kept Finish h n =
       let done : s.phase ≡ 22 = omega (arith, tests) in
-      record { at_rest = λ e. b.same.in-22 done; in-22 = λ e. absurd (omega arith) }
+      record { at_rest = λ e. b.same.in_22 done; in_22 = λ e. absurd (omega arith) }
   kept (Tick n) h m = unmoved
   kept Reset h n = absurd (n refl)
 
-  goes-beside : (r : Reading) → ¬ (r ≡ Means Reset) → guard t s r ≡ 0 → Beside (next old s r) (led s r)
-  goes-beside r n z = record {
-    holds = stays-listed s r b.holds;
+  goes_beside : (r : Reading) → ¬ (r ≡ Means Reset) → guard t s r ≡ 0 → Beside (next old s r) (led s r)
+  goes_beside r n z = record {
+    holds = stays_listed s r b.holds;
     old-holds =
         either_way (eqb (led (boxed old s) r).phase 22 && not (eqb s.phase 22)) (eqb s.phase 19 || eqb s.phase 21) old b.old-holds;
-    stands = kept-standing t s b.stands r z;
+    stands = kept_standing t s b.stands r z;
     same =
         each_step (λ q. ¬ (q ≡ Means Reset) → Same (led s q).phase (next old s q) (led s q).gear_box) t s kept r z n;
   }
@@ -171,13 +171,13 @@ ended old s k d e b = record {
   number = refl;
   clock = refl;
   phase = refl;
-  phase-time = refl;
+  phase_time = refl;
   stage = refl;
-  stage-time = refl;
-  request-time = refl;
+  stage_time = refl;
+  request_time = refl;
   failed-phase = refl;
   at_rest = λ e. ap (λ box. boxed box s) (b.same.at_rest e);
-  in-22 = λ e. ap (λ box. boxed box s) (b.same.in-22 e);
+  in_22 = λ e. ap (λ box. boxed box s) (b.same.in_22 e);
 }
 
 goes_on :
@@ -189,32 +189,32 @@ goes_on old s zero d e xs ys b f =
       number = a.number;
       clock = a.clock;
       phase = a.phase;
-      phase-time = a.phase-time;
+      phase_time = a.phase_time;
       stage = a.stage;
-      stage-time = a.stage-time;
-      request-time = a.request-time;
+      stage_time = a.stage_time;
+      request_time = a.request_time;
       failed-phase = a.failed-phase;
       at_rest = a.at_rest;
-      in-22 = a.in-22;
+      in_22 = a.in_22;
     }
 goes_on old s (suc k) d e xs ys b f = ended old s (suc k) d e b
 
-from-beside :
+from_beside :
     (t : Table) (old : ℕ) (s : State) (rs : List Reading) → Beside old s → WithoutReset rs
     → Agree (run_by led_before t (boxed old s) rs) (run t s rs)
-from-beside t old s [] b w = ended old s 0 0 0 b
-from-beside t old s (r ∷ rs) b w =
+from_beside t old s [] b w = ended old s 0 0 0 b
+from_beside t old s (r ∷ rs) b w =
     rw (same-guard t old s b r, same-led old s r)
     (goes_on old s (guard t s r) _ _ (run_by led_before t (boxed (next old s r) (led s r)) rs) (run t (led s r) rs) b
-    (λ z. from-beside t (next old s r) (led s r) rs (goes-beside t old s b r w.0 z) w.1))
+    (λ z. from_beside t (next old s r) (led s r) rs (goes_beside t old s b r w.0 z) w.1))
 
 -- For every table and every list of the old twelve steps, old rules and new accept the same steps and refuse at the same record by the
 -- same number; at rest and in phase 22 their states are the same, elsewhere but for the box. A beginning of a list is a list, so this
 -- is so at each of its points.
-pub old-and-new-agree :
+pub old_and_new_agree :
     (t : Table) (rs : List Reading) → WithoutReset rs → Agree (run_by led_before t start rs) (run t start rs)
-old-and-new-agree t rs =
-    from-beside t 0 start rs (record {
+old_and_new_agree t rs =
+    from_beside t 0 start rs (record {
       holds = (tt, (tt, (tt, tt)));
       old-holds = tt;
       stands = omega arith;

@@ -72,8 +72,8 @@ module _ (t : Table) (s : State) (i : Stands s.phase s.gear_box) where
   kept (Tick n) h = i
   kept Reset h = omega (arith, tests)
 
-  pub kept-standing : (r : Reading) → guard t s r ≡ 0 → Stands (led s r).phase (led s r).gear_box
-  kept-standing = each_step (λ r. Stands (led s r).phase (led s r).gear_box) t s kept
+  pub kept_standing : (r : Reading) → guard t s r ≡ 0 → Stands (led s r).phase (led s r).gear_box
+  kept_standing = each_step (λ r. Stands (led s r).phase (led s r).gear_box) t s kept
 
 -- ---- every list leads to it
 goes :
@@ -88,4 +88,4 @@ pub standing :
     → Stands (run t s rs).state.phase (run t s rs).state.gear_box
 standing t s [] i = i
 standing t s (r ∷ rs) i =
-    goes (guard t s r) _ s (run t (led s r) rs) i (λ z. standing t (led s r) rs (kept-standing t s i r z))
+    goes (guard t s r) _ s (run t (led s r) rs) i (λ z. standing t (led s r) rs (kept_standing t s i r z))

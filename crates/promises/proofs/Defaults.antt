@@ -8,12 +8,12 @@ use Rattle.limits.specs.Tighter.{NowhereTighter}
 use Rattle.shift.specs.declared.Reading.{Reading}
 use Rattle.shift.specs.States.{start}
 use Rattle.shift.specs.Runs.{run}
-use Rattle.promises.proofs.Promises.{accepted-by-a-looser-table}
+use Rattle.promises.proofs.Promises.{accepted_by_a_looser_table}
 
-pub the-new-default-is-nowhere-tighter : NowhereTighter by_old_default by_new_default
-the-new-default-is-nowhere-tighter =
+pub the_new_default_is_nowhere_tighter : NowhereTighter by_old_default by_new_default
+the_new_default_is_nowhere_tighter =
     record { limits = omega arith; delays = omega arith; phases = omega arith; clutches = omega arith }
 
-pub accepted-by-the-new-default :
+pub accepted_by_the_new_default :
     (rs : List Reading) → (run by_old_default start rs).number ≡ 0 → run by_new_default start rs ≡ run by_old_default start rs
-accepted-by-the-new-default = accepted-by-a-looser-table by_old_default by_new_default refl refl the-new-default-is-nowhere-tighter
+accepted_by_the_new_default = accepted_by_a_looser_table by_old_default by_new_default refl refl the_new_default_is_nowhere_tighter

@@ -25,18 +25,18 @@ use Rattle.promises.specs.Refusals.{placings, ByCode, Misplaced}
 use Rattle.promises.specs.Answered.{Answered}
 use Rattle.promises.specs.Before.{WithoutReset}
 use Rattle.promises.proofs.Runs.{each_step}
-use Rattle.promises.proofs.PlaceLaws.{engine-order}
+use Rattle.promises.proofs.PlaceLaws.{engine_order}
 
 -- ---- one step
 module _ (t : Table) (s : State) (code middle amount : ℕ) (e : s.phase ≡ 23) where
-  no-rest : ¬ (s.phase ≡ 0)
-  no-rest q = omega arith
+  no_rest : ¬ (s.phase ≡ 0)
+  no_rest q = omega arith
 
   no_shift : ¬ Shifting s
   no_shift q = omega arith
 
-  no-engine : ¬ Engine s
-  no-engine q = let o = engine-order s q in omega arith
+  no_engine : ¬ Engine s
+  no_engine q = let o = engine_order s q in omega arith
 
   no_end : ¬ (s.phase ≡ 22)
   no_end q = omega arith
@@ -44,15 +44,15 @@ module _ (t : Table) (s : State) (code middle amount : ℕ) (e : s.phase ≡ 23)
   misplaced : 1 ≤ code → code ≤ 11 → Misplaced s code
   misplaced l m p =
       from (λ k. ¬ ByCode (placings s) k) 1 11
-      (no-rest, (no-rest, (no-rest, (λ q. no_shift q.0, (λ q. no_shift q.0, (λ q. no_shift q.0, (λ q. no-engine q.0, (λ q. no_shift q.0, (λ q. no-engine q.0, (λ q. no_shift q.0, (no_end, tt)))))))))))
+      (no_rest, (no_rest, (no_rest, (λ q. no_shift q.0, (λ q. no_shift q.0, (λ q. no_shift q.0, (λ q. no_engine q.0, (λ q. no_shift q.0, (λ q. no_engine q.0, (λ q. no_shift q.0, (no_end, tt)))))))))))
       code l (omega arith) p.1
 
   -- whatever is answered as one step is: under an admitted table codes 1 to 11 are refused with 7
-  pub an-error-is-final-until-a-reset :
+  pub an_error_is_final_until_a_reset :
       (n over : ℕ) (u : State) → Answered t s code middle amount n over u → Admitted t → Formed code middle amount
       → 1 ≤ code → code ≤ 11
       → (n ≡ 7) × (u ≡ s)
-  an-error-is-final-until-a-reset n over u x admitted formed l m =
+  an_error_is_final_until_a_reset n over u x admitted formed l m =
       let seven : n ≡ 7 =
       ⊎_elim
       (λ a. absurd (a.0 admitted))
@@ -74,10 +74,10 @@ module _ (t : Table) (s : State) (code middle amount : ℕ) (e : s.phase ≡ 23)
 pub record Stopped (s s' : State) : Type 0 where
   pub box : s'.gear_box ≡ s.gear_box
   pub phase : s'.phase ≡ s.phase
-  pub phase-time : s'.phase_time ≡ s.phase_time
+  pub phase_time : s'.phase_time ≡ s.phase_time
   pub stage : s'.stage ≡ s.stage
-  pub stage-time : s'.stage_time ≡ s.stage_time
-  pub request-time : s'.request_time ≡ s.request_time
+  pub stage_time : s'.stage_time ≡ s.stage_time
+  pub request_time : s'.request_time ≡ s.request_time
   pub failed-phase : s'.failed_phase ≡ s.failed_phase
 
 clocked : (s : State) (c : ℕ) → Stopped s (record {
@@ -93,10 +93,10 @@ clocked : (s : State) (c : ℕ) → Stopped s (record {
 clocked s c = record {
   box = refl;
   phase = refl;
-  phase-time = refl;
+  phase_time = refl;
   stage = refl;
-  stage-time = refl;
-  request-time = refl;
+  stage_time = refl;
+  request_time = refl;
   failed-phase = refl;
 }
 
@@ -104,42 +104,42 @@ still : (s u v : State) → Stopped s u → Stopped u v → Stopped s v
 still s u v x y = record {
   box = y.box ∙ x.box;
   phase = y.phase ∙ x.phase;
-  phase-time = y.phase-time ∙ x.phase-time;
+  phase_time = y.phase_time ∙ x.phase_time;
   stage = y.stage ∙ x.stage;
-  stage-time = y.stage-time ∙ x.stage-time;
-  request-time = y.request-time ∙ x.request-time;
+  stage_time = y.stage_time ∙ x.stage_time;
+  request_time = y.request_time ∙ x.request_time;
   failed-phase = y.failed-phase ∙ x.failed-phase;
 }
 
 module _ (t : Table) (s : State) (e : s.phase ≡ 23) where
-  ticks-alone : (x : Step) → Holds (checks t s (Means x)) → ¬ (Means x ≡ Means Reset) → Stopped s (led s (Means x))
-  ticks-alone FromNeutral h n = absurd (omega (arith, tests))
-  ticks-alone GearToGear h n = absurd (omega (arith, tests))
-  ticks-alone ToNeutral h n = absurd (omega (arith, tests))
-  ticks-alone Deliver h n = absurd (omega (arith, tests))
-  ticks-alone DeviceGood h n = absurd (omega (arith, tests))
-  ticks-alone DeviceFailed h n = absurd (omega (arith, tests))
-  ticks-alone EngineWaits h n = absurd (omega (arith, tests))
-  ticks-alone Take h n = absurd (omega (arith, tests))
-  ticks-alone AskClutch h n = absurd (omega (arith, tests))
-  ticks-alone RaiseError h n = absurd (omega (arith, tests))
-  ticks-alone Finish h n = absurd (omega (arith, tests))
-  ticks-alone (Tick k) h n = clocked s (s.clock + k)
-  ticks-alone Reset h n = absurd (n refl)
+  ticks_alone : (x : Step) → Holds (checks t s (Means x)) → ¬ (Means x ≡ Means Reset) → Stopped s (led s (Means x))
+  ticks_alone FromNeutral h n = absurd (omega (arith, tests))
+  ticks_alone GearToGear h n = absurd (omega (arith, tests))
+  ticks_alone ToNeutral h n = absurd (omega (arith, tests))
+  ticks_alone Deliver h n = absurd (omega (arith, tests))
+  ticks_alone DeviceGood h n = absurd (omega (arith, tests))
+  ticks_alone DeviceFailed h n = absurd (omega (arith, tests))
+  ticks_alone EngineWaits h n = absurd (omega (arith, tests))
+  ticks_alone Take h n = absurd (omega (arith, tests))
+  ticks_alone AskClutch h n = absurd (omega (arith, tests))
+  ticks_alone RaiseError h n = absurd (omega (arith, tests))
+  ticks_alone Finish h n = absurd (omega (arith, tests))
+  ticks_alone (Tick k) h n = clocked s (s.clock + k)
+  ticks_alone Reset h n = absurd (n refl)
 
-  ticks-on : (r : Reading) → guard t s r ≡ 0 → ¬ (r ≡ Means Reset) → Stopped s (led s r)
-  ticks-on = each_step (λ r. ¬ (r ≡ Means Reset) → Stopped s (led s r)) t s ticks-alone
+  ticks_on : (r : Reading) → guard t s r ≡ 0 → ¬ (r ≡ Means Reset) → Stopped s (led s r)
+  ticks_on = each_step (λ r. ¬ (r ≡ Means Reset) → Stopped s (led s r)) t s ticks_alone
 
 ends : (k over : ℕ) (s : State) (rest : Outcome) → (k ≡ 0 → Stopped s rest.state) → Stopped s (after k over s rest).state
 ends zero over s rest f = f refl
 ends (suc k) over s rest f = clocked s s.clock
 
 -- from an error on, as far as a list is accepted and until it has a reset, nothing but the clock moves
-pub only-the-clock-moves-after-an-error :
+pub only_the_clock_moves_after_an_error :
     (t : Table) (s : State) (rs : List Reading) → s.phase ≡ 23 → WithoutReset rs → Stopped s (run t s rs).state
-only-the-clock-moves-after-an-error t s [] e w = clocked s s.clock
-only-the-clock-moves-after-an-error t s (r ∷ rs) e w =
+only_the_clock_moves_after_an_error t s [] e w = clocked s s.clock
+only_the_clock_moves_after_an_error t s (r ∷ rs) e w =
     ends (guard t s r) _ s (run t (led s r) rs) (λ z.
-    let one = ticks-on t s e r z w.0 in
+    let one = ticks_on t s e r z w.0 in
     still s (led s r) (run t (led s r) rs).state one
-    (only-the-clock-moves-after-an-error t (led s r) rs (one.phase ∙ e) w.1))
+    (only_the_clock_moves_after_an_error t (led s r) rs (one.phase ∙ e) w.1))

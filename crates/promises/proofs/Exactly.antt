@@ -20,15 +20,15 @@ use Rattle.promises.proofs.Permitted.{permitted}
 
 module _ (t : Table) (s : State) (r : Reading) (rs : List Reading) where
   -- the first step is allowed, and so is each before the count of the rest
-  allowed-on :
+  allowed_on :
       (o : Outcome) → Exact t (led s r) rs o → guard t s r ≡ 0
       → (i : ℕ) → i < suc o.count → Permitted t (leads s (take i (r ∷ rs))) (at (r ∷ rs) i)
-  allowed-on o x e zero h = (permitted t s r).0 e
-  allowed-on o x e (suc i) h = x.allowed i (le_of_suc-le-suc h)
+  allowed_on o x e zero h = (permitted t s r).0 e
+  allowed_on o x e (suc i) h = x.allowed i (le_of_suc-le-suc h)
 
   one_more : (k : ℕ) (o : Outcome) → guard t s r ≡ k → Exact t (led s r) rs o → Exact t s (r ∷ rs) (after k (excess t s r k) s o)
   one_more zero o e x = record {
-    allowed = allowed-on o x e;
+    allowed = allowed_on o x e;
     state = x.state;
     refused = λ h. let f = x.refused h in (omega arith, f.1);
     accepted = λ h. ap suc (x.accepted h);
@@ -60,8 +60,8 @@ module _ (t : Table) (s : State) (rs : List Reading) where
       (λ e. let l = x.accepted (eqb-true o.number 0 e) in omega arith)
       (λ e. let l = (x.refused (eqb-false o.number 0 e)).0 in omega arith)
 
-  not-before : (a b : Outcome) → Exact t s rs a → Exact t s rs b → a.count < b.count → ⊥
-  not-before a b x y h =
+  not_before : (a b : Outcome) → Exact t s rs a → Exact t s rs b → a.count < b.count → ⊥
+  not_before a b x y h =
       let n : ¬ (a.number ≡ 0) = λ e. let l = x.accepted e in let m = short b y in omega arith in
       let p = (permitted t (leads s (take a.count rs)) (at rs a.count)).1 (y.allowed a.count h) in
       n (sym (x.refused n).1 ∙ rw x.state p)
@@ -82,8 +82,8 @@ module _ (t : Table) (s : State) (rs : List Reading) where
 
   same_count : (a b : Outcome) → Exact t s rs a → Exact t s rs b → a.count ≡ b.count
   same_count a b x y =
-      let l : ¬ (a.count < b.count) = not-before a b x y in
-      let m : ¬ (b.count < a.count) = not-before b a y x in
+      let l : ¬ (a.count < b.count) = not_before a b x y in
+      let m : ¬ (b.count < a.count) = not_before b a y x in
       omega arith
 
   same-state : (a b : Outcome) → Exact t s rs a → Exact t s rs b → a.state ≡ b.state

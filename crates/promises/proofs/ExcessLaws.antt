@@ -14,7 +14,7 @@ use Rattle.checks.proofs.Checks.{within, at_most}
 use Rattle.checks.proofs.Tests.{tests}
 use Rattle.limits.specs.declared.Table.{Table}
 use Rattle.phases.specs.Phases.{unfinished}
-use Rattle.phases.proofs.ByPhaseLaws.{among, ex-in}
+use Rattle.phases.proofs.ByPhaseLaws.{among, ex_in_lem}
 use Rattle.shift.specs.declared.State.{State}
 use Rattle.shift.specs.declared.Step.{Step}
 use Rattle.shift.specs.declared.Step.TheVariants.{FromNeutral, GearToGear, ToNeutral, Deliver, DeviceGood, DeviceFailed, EngineWaits, Take, AskClutch, RaiseError, Finish, Tick, Reset}
@@ -24,12 +24,12 @@ use Rattle.shift.specs.Steps.{shifts_in, in_device, in_engine, good_bound, faile
 use Rattle.shift.specs.Excess.{early_bound}
 use Rattle.shift.specs.Answers.{listed, checks, guard, excess}
 use Rattle.shift.specs.Refusals.{code_of, amount_of, Reads}
-use Rattle.shift.proofs.ExcessLaws.{none-below-9}
+use Rattle.shift.proofs.ExcessLaws.{none_below_9}
 use Rattle.promises.specs.Allowed.{Shifting, OpenOrClose}
 use Rattle.promises.specs.Refusals.{TooEarly, PastClock, PastStage, PastPhase}
 use Rattle.promises.specs.HowFar.{at_clock, EarlyBy, LateBy, PastBy, HowFar}
-use Rattle.promises.proofs.RefusalLaws.{by-test, behind, good-too-early, failed-too-early, ask-too-early}
-use Rattle.promises.proofs.PlaceLaws.{within_ex, within_report, within_stage, within_phase, too-early, too-late, in-channel-time, in-device-time, past-stage, in-phase-time, past-phase}
+use Rattle.promises.proofs.RefusalLaws.{by_test, behind, good_too_early, failed_too_early, ask_too_early}
+use Rattle.promises.proofs.PlaceLaws.{within_ex, within_report, within_stage, within_phase, too_early, too_late, in_channel_time, in_device_time, past-stage, in_phase_time, past-phase}
 
 abbrev timed : List ℕ
 timed = 9 ∷ 10 ∷ 11 ∷ 12 ∷ 13 ∷ []
@@ -38,11 +38,11 @@ timed = 9 ∷ 10 ∷ 11 ∷ 12 ∷ 13 ∷ []
 module _ (t : Table) (s : State) (code amount : ℕ) where
   pub nothing : (k : ℕ) → k < 9 → HowFar t s code amount k 0
   nothing k l = record {
-    too-early = λ e. absurd (omega arith);
-    too-late = λ e. absurd (omega arith);
+    too_early = λ e. absurd (omega arith);
+    too_late = λ e. absurd (omega arith);
     past-phase = λ e. absurd (omega arith);
     past-stage = λ e. absurd (omega arith);
-    past-clock = λ e. absurd (omega arith);
+    past_clock = λ e. absurd (omega arith);
     none = λ _. refl;
   }
 
@@ -58,23 +58,23 @@ past_by Past bound now same l = record {
 
 module _ (t : Table) (s : State) where
   -- the phase's limit
-  by-phase : unfinished s.phase ≡ true → (c n : ℕ) → (phase_bound t s < c + n) ↔ PastPhase t (at_clock c s) 12 n
-  by-phase u c n = (
+  by_phase : unfinished s.phase ≡ true → (c n : ℕ) → (phase_bound t s < c + n) ↔ PastPhase t (at_clock c s) 12 n
+  by_phase u c n = (
     λ l. let w = past-phase t (at_clock c s) (c + n) (rw (u, lt-leb (c + n) (phase_bound t s) l) tt) in (refl, w.0, w.1),
     λ w.
         elim (dec_lt (phase_bound t s) (c + n)) [
           | yes l ↦ l
           | no l ↦
               let within : T (within_phase t (at_clock c s) (c + n)) = rw u (le→leb (c + n) (phase_bound t s) (omega arith)) in
-              let m = in-phase-time t (at_clock c s) (c + n) within w.1 in
+              let m = in_phase_time t (at_clock c s) (c + n) within w.1 in
               let past = w.2 in
               absurd (omega arith)
         ],
   )
 
   -- the channel's or the device's
-  by-stage : limited s ≡ true → (c n : ℕ) → (stage_bound t s < c + n) ↔ PastStage t (at_clock c s) 12 n
-  by-stage u c n = (
+  by_stage : limited s ≡ true → (c n : ℕ) → (stage_bound t s < c + n) ↔ PastStage t (at_clock c s) 12 n
+  by_stage u c n = (
     λ l. let w = past-stage t (at_clock c s) (c + n) (rw (u, lt-leb (c + n) (stage_bound t s) l) tt) in (refl, w.0, w.1),
     λ w.
         elim (dec_lt (stage_bound t s) (c + n)) [
@@ -82,15 +82,15 @@ module _ (t : Table) (s : State) where
           | no l ↦
               let within : T (within_stage t (at_clock c s) (c + n)) = rw u (le→leb (c + n) (stage_bound t s) (omega arith)) in
               ⊎_elim
-              (λ q. let m = in-channel-time t (at_clock c s) (c + n) within w.1 q.0 in let past = q.1 in absurd (omega arith))
-              (λ q. let m = in-device-time t (at_clock c s) (c + n) within w.1 q.0 in let past = q.1 in absurd (omega arith))
+              (λ q. let m = in_channel_time t (at_clock c s) (c + n) within w.1 q.0 in let past = q.1 in absurd (omega arith))
+              (λ q. let m = in_device_time t (at_clock c s) (c + n) within w.1 q.0 in let past = q.1 in absurd (omega arith))
               w.2
         ],
   )
 
   -- the largest clock
-  by-clock : (c n : ℕ) → (4294967295 < c + n) ↔ PastClock (at_clock c s) 12 n
-  by-clock c n = (λ l. (refl, l), λ w. w.1)
+  by_clock : (c n : ℕ) → (4294967295 < c + n) ↔ PastClock (at_clock c s) 12 n
+  by_clock c n = (λ l. (refl, l), λ w. w.1)
 
 -- a limit that is passed applies
 held : (b : Bool) (x y : ℕ) → T (not (leb (cond b x 0) y)) → (b ≡ true) × (y < x)
@@ -102,24 +102,24 @@ module _ (t : Table) (s : State) where
   abbrev Far : Step → ℕ → Type 0
   Far x k = HowFar t s (code_of x) (amount_of x) k (excess t s (Means x) k)
 
-  carries-nothing : (x : Step) (k : ℕ) → k < 9 → Far x k
-  carries-nothing x k l = rw (none-below-9 t s (early_bound t s x) (effect s x).clock k l) (nothing t s (code_of x) (amount_of x) k l)
+  carries_nothing : (x : Step) (k : ℕ) → k < 9 → Far x k
+  carries_nothing x k l = rw (none_below_9 t s (early_bound t s x) (effect s x).clock k l) (nothing t s (code_of x) (amount_of x) k l)
 
   untimed : (x : Step) → T (within 0 8 (checks t s (Means x))) → Far x (guard t s (Means x))
-  untimed x h = let l = at_most 8 (checks t s (Means x)) h in carries-nothing x (guard t s (Means x)) (omega arith)
+  untimed x h = let l = at_most 8 (checks t s (Means x)) h in carries_nothing x (guard t s (Means x)) (omega arith)
 
   take : Far Take (guard t s (Means Take))
   take =
-      behind (Far Take) (listed s ++ shifts_in s 3) (in_take_time t s) 7 tt (λ _. carries-nothing Take 7 (omega arith))
+      behind (Far Take) (listed s ++ shifts_in s 3) (in_take_time t s) 7 tt (λ _. carries_nothing Take 7 (omega arith))
       (λ h.
-      by-test (Far Take) (within_ex t s) 10 [] (λ e. carries-nothing Take 0 (omega arith))
+      by_test (Far Take) (within_ex t s) 10 [] (λ e. carries_nothing Take 0 (omega arith))
       (λ e.
       let z : Shifting s = omega (arith, tests) in
-      let w = too-late t s z e in
-      let ex = ex-in t s.phase z.0 (omega arith) in
+      let w = too_late t s z e in
+      let ex = ex_in_lem t s.phase z.0 (omega arith) in
       let past = w.1 in record {
-        too-early = λ q. absurd (omega arith);
-        too-late = λ _. record {
+        too_early = λ q. absurd (omega arith);
+        too_late = λ _. record {
           some = omega arith;
           no_more = omega arith;
           then = λ q. let l = q.2 in omega arith;
@@ -127,108 +127,108 @@ module _ (t : Table) (s : State) where
         };
         past-phase = λ q. absurd (omega arith);
         past-stage = λ q. absurd (omega arith);
-        past-clock = λ q. absurd (omega arith);
+        past_clock = λ q. absurd (omega arith);
         none = λ n. absurd (n (inr (inl refl)));
       }))
 
   -- 9: too early for a bound, as what is too early for it at any clock is described
-  early-by :
+  early_by :
       (code amount bound : ℕ) → ((c : ℕ) → (c < bound) ↔ TooEarly t (at_clock c s) code) → s.clock < bound
       → HowFar t s code amount 9 (bound - s.clock)
-  early-by code amount bound same l = record {
-    too-early = λ _. record {
+  early_by code amount bound same l = record {
+    too_early = λ _. record {
       some = omega arith;
       then = λ q. let m = (same (s.clock + (bound - s.clock))).1 q in omega arith;
       before = λ c m. (same c).0 (omega arith);
     };
-    too-late = λ q. absurd (omega arith);
+    too_late = λ q. absurd (omega arith);
     past-phase = λ q. absurd (omega arith);
     past-stage = λ q. absurd (omega arith);
-    past-clock = λ q. absurd (omega arith);
+    past_clock = λ q. absurd (omega arith);
     none = λ n. absurd (n (inl refl));
   }
 
   -- in an open or close phase that is the clock before a bound
-  at-any-clock :
+  at_any_clock :
       (code bound : ℕ) → OpenOrClose s → ((c : ℕ) → (OpenOrClose s × (c < bound)) ↔ TooEarly t (at_clock c s) code)
       → (c : ℕ) → (c < bound) ↔ TooEarly t (at_clock c s) code
-  at-any-clock code bound o same c = (λ l. (same c).0 (o, l), λ q. ((same c).1 q).1)
+  at_any_clock code bound o same c = (λ l. (same c).0 (o, l), λ q. ((same c).1 q).1)
 
   good : Far DeviceGood (guard t s (Means DeviceGood))
   good =
-      behind (Far DeviceGood) (listed s ++ shifts_in s 2) (in_report_time s (good_bound t s)) 7 tt (λ _. carries-nothing DeviceGood 7 (omega arith))
+      behind (Far DeviceGood) (listed s ++ shifts_in s 2) (in_report_time s (good_bound t s)) 7 tt (λ _. carries_nothing DeviceGood 7 (omega arith))
       (λ h.
-      by-test (Far DeviceGood) (within_report s (good_bound t s)) 9 [] (λ e. carries-nothing DeviceGood 0 (omega arith))
+      by_test (Far DeviceGood) (within_report s (good_bound t s)) 9 [] (λ e. carries_nothing DeviceGood 0 (omega arith))
       (λ e.
       let z : Shifting s = omega (arith, tests) in
-      let w = too-early s (good_bound t s) z e in
-      early-by 5 0 (good_bound t s) (at-any-clock 5 (good_bound t s) w.0 (λ c. good-too-early t (at_clock c s) 0 z)) w.1))
+      let w = too_early s (good_bound t s) z e in
+      early_by 5 0 (good_bound t s) (at_any_clock 5 (good_bound t s) w.0 (λ c. good_too_early t (at_clock c s) 0 z)) w.1))
 
   failed : Far DeviceFailed (guard t s (Means DeviceFailed))
   failed =
-      behind (Far DeviceFailed) (listed s ++ (shifts_in s 2 ++ in_device s)) (in_report_time s (failed_bound t s)) 7 tt (λ _. carries-nothing DeviceFailed 7 (omega arith))
+      behind (Far DeviceFailed) (listed s ++ (shifts_in s 2 ++ in_device s)) (in_report_time s (failed_bound t s)) 7 tt (λ _. carries_nothing DeviceFailed 7 (omega arith))
       (λ h.
-      by-test (Far DeviceFailed) (within_report s (failed_bound t s)) 9 [] (λ e. carries-nothing DeviceFailed 0 (omega arith))
+      by_test (Far DeviceFailed) (within_report s (failed_bound t s)) 9 [] (λ e. carries_nothing DeviceFailed 0 (omega arith))
       (λ e.
       let z : Shifting s = omega (arith, tests) in
-      let w = too-early s (failed_bound t s) z e in
-      early-by 6 0 (failed_bound t s) (at-any-clock 6 (failed_bound t s) w.0 (λ c. failed-too-early t (at_clock c s) 0 z)) w.1))
+      let w = too_early s (failed_bound t s) z e in
+      early_by 6 0 (failed_bound t s) (at_any_clock 6 (failed_bound t s) w.0 (λ c. failed_too_early t (at_clock c s) 0 z)) w.1))
 
   ask : Far AskClutch (guard t s (Means AskClutch))
   ask =
-      behind (Far AskClutch) (listed s ++ (shifts_in s 5 ++ in_engine s)) (in_ask_time t s) 7 tt (λ _. carries-nothing AskClutch 7 (omega arith))
+      behind (Far AskClutch) (listed s ++ (shifts_in s 5 ++ in_engine s)) (in_ask_time t s) 7 tt (λ _. carries_nothing AskClutch 7 (omega arith))
       (λ h.
-      by-test (Far AskClutch) (leb (ask_bound t s) s.clock) 9 [] (λ e. carries-nothing AskClutch 0 (omega arith))
+      by_test (Far AskClutch) (leb (ask_bound t s) s.clock) 9 [] (λ e. carries_nothing AskClutch 0 (omega arith))
       (λ e.
       let z : Shifting s = omega (arith, tests) in
-      early-by 9 0 (ask_bound t s) (λ c. ask-too-early t (at_clock c s) 0 z) (nleb→lt (ask_bound t s) s.clock e)))
+      early_by 9 0 (ask_bound t s) (λ c. ask_too_early t (at_clock c s) 0 z) (nleb→lt (ask_bound t s) s.clock e)))
 
   module _ (n : ℕ) where
     abbrev now : ℕ
     now = s.clock + n
 
-    past-13 : T (not (leb now 4294967295)) → Far (Tick n) 13
-    past-13 e = record {
-      too-early = λ q. absurd (omega arith);
-      too-late = λ q. absurd (omega arith);
+    past_13 : T (not (leb now 4294967295)) → Far (Tick n) 13
+    past_13 e = record {
+      too_early = λ q. absurd (omega arith);
+      too_late = λ q. absurd (omega arith);
       past-phase = λ q. absurd (omega arith);
       past-stage = λ q. absurd (omega arith);
-      past-clock = λ _. past_by (λ c m. PastClock (at_clock c s) 12 m) 4294967295 now (by-clock t s) (nleb→lt now 4294967295 e);
+      past_clock = λ _. past_by (λ c m. PastClock (at_clock c s) 12 m) 4294967295 now (by_clock t s) (nleb→lt now 4294967295 e);
       none = λ k. absurd (k (inr (inr (inr (inr (inl refl))))));
     }
 
-    past-12 : T (not (within_stage t s now)) → Far (Tick n) 12
-    past-12 e =
+    past_12 : T (not (within_stage t s now)) → Far (Tick n) 12
+    past_12 e =
         let l = held (limited s) now (stage_bound t s) e in record {
-          too-early = λ q. absurd (omega arith);
-          too-late = λ q. absurd (omega arith);
+          too_early = λ q. absurd (omega arith);
+          too_late = λ q. absurd (omega arith);
           past-phase = λ q. absurd (omega arith);
-          past-stage = λ _. past_by (λ c m. PastStage t (at_clock c s) 12 m) (stage_bound t s) now (by-stage t s l.0) l.1;
-          past-clock = λ q. absurd (omega arith);
+          past-stage = λ _. past_by (λ c m. PastStage t (at_clock c s) 12 m) (stage_bound t s) now (by_stage t s l.0) l.1;
+          past_clock = λ q. absurd (omega arith);
           none = λ k. absurd (k (inr (inr (inr (inl refl)))));
         }
 
-    past-11 : T (not (within_phase t s now)) → Far (Tick n) 11
-    past-11 e =
+    past_11 : T (not (within_phase t s now)) → Far (Tick n) 11
+    past_11 e =
         let l = held (unfinished s.phase) now (phase_bound t s) e in record {
-          too-early = λ q. absurd (omega arith);
-          too-late = λ q. absurd (omega arith);
-          past-phase = λ _. past_by (λ c m. PastPhase t (at_clock c s) 12 m) (phase_bound t s) now (by-phase t s l.0) l.1;
+          too_early = λ q. absurd (omega arith);
+          too_late = λ q. absurd (omega arith);
+          past-phase = λ _. past_by (λ c m. PastPhase t (at_clock c s) 12 m) (phase_bound t s) now (by_phase t s l.0) l.1;
           past-stage = λ q. absurd (omega arith);
-          past-clock = λ q. absurd (omega arith);
+          past_clock = λ q. absurd (omega arith);
           none = λ k. absurd (k (inr (inr (inl refl))));
         }
 
     tick : Far (Tick n) (guard t s (Means (Tick n)))
     tick =
-        behind (Far (Tick n)) (listed s) (in_tick_time t s now) 7 tt (λ _. carries-nothing (Tick n) 7 (omega arith))
+        behind (Far (Tick n)) (listed s) (in_tick_time t s now) 7 tt (λ _. carries_nothing (Tick n) 7 (omega arith))
         (λ h.
-        by-test (Far (Tick n)) (leb now 4294967295) 13 ((within_stage t s now ! 12) ∷ (within_phase t s now ! 11) ∷ [])
+        by_test (Far (Tick n)) (leb now 4294967295) 13 ((within_stage t s now ! 12) ∷ (within_phase t s now ! 11) ∷ [])
         (λ a.
-        by-test (Far (Tick n)) (within_stage t s now) 12 ((within_phase t s now ! 11) ∷ [])
-        (λ b. by-test (Far (Tick n)) (within_phase t s now) 11 [] (λ c. carries-nothing (Tick n) 0 (omega arith)) past-11)
-        past-12)
-        past-13)
+        by_test (Far (Tick n)) (within_stage t s now) 12 ((within_phase t s now ! 11) ∷ [])
+        (λ b. by_test (Far (Tick n)) (within_phase t s now) 11 [] (λ c. carries_nothing (Tick n) 0 (omega arith)) past_11)
+        past_12)
+        past_13)
 
   far : (x : Step) → Far x (guard t s (Means x))
   far FromNeutral = untimed FromNeutral tt
@@ -245,14 +245,14 @@ module _ (t : Table) (s : State) where
   far (Tick n) = tick n
   far Reset = untimed Reset tt
 
-  pub how-far :
+  pub how_far :
       (code middle amount : ℕ) (r : Reading) → Reads code middle amount r
       → HowFar t s code amount (guard t s r) (excess t s r (guard t s r))
-  how-far code middle amount (Means x) h =
+  how_far code middle amount (Means x) h =
       subst (λ (c : ℕ). HowFar t s c amount (guard t s (Means x)) (excess t s (Means x) (guard t s (Means x)))) h.2
       (subst (λ (n : ℕ). HowFar t s (code_of x) n (guard t s (Means x)) (excess t s (Means x) (guard t s (Means x)))) h.3 (far x))
-  how-far code middle amount WrongCode h = nothing t s code amount 5 (omega arith)
-  how-far code middle amount WrongAmount h = nothing t s code amount 6 (omega arith)
+  how_far code middle amount WrongCode h = nothing t s code amount 5 (omega arith)
+  how_far code middle amount WrongAmount h = nothing t s code amount 6 (omega arith)
 
 -- ---- and nothing else is
 module _ (t : Table) (s : State) (code : ℕ) (d e : ℕ) where
@@ -262,8 +262,8 @@ module _ (t : Table) (s : State) (code : ℕ) (d e : ℕ) where
       let m : ¬ (e < d) = λ h. b.then (a.before (s.clock + e) (omega arith)) in
       omega arith
 
-  same-late : LateBy t s code d → LateBy t s code e → d ≡ e
-  same-late a b =
+  same_late : LateBy t s code d → LateBy t s code e → d ≡ e
+  same_late a b =
       let p = a.no_more in
       let q = b.no_more in
       let l : ¬ (d < e) = λ h. a.then (b.behind (s.clock - d) (omega arith)) in
@@ -278,14 +278,14 @@ same-past Past now d e a b =
     let m : ¬ (e < d) = λ h. b.kept (now - e) 0 (omega arith) (a.passed (now - e) 0 (omega arith)) in
     omega arith
 
-pub no-other-excess :
+pub no_other_excess :
     (t : Table) (s : State) (code amount k d e : ℕ) → HowFar t s code amount k d → HowFar t s code amount k e → d ≡ e
-no-other-excess t s code amount k d e a b =
+no_other_excess t s code amount k d e a b =
     among timed k
-    (⊎_elim (λ q. same-early t s code d e (a.too-early q) (b.too-early q))
-    (⊎_elim (λ q. same-late t s code d e (a.too-late q) (b.too-late q))
+    (⊎_elim (λ q. same-early t s code d e (a.too_early q) (b.too_early q))
+    (⊎_elim (λ q. same_late t s code d e (a.too_late q) (b.too_late q))
     (⊎_elim (λ q. same-past _ _ d e (a.past-phase q) (b.past-phase q))
     (⊎_elim (λ q. same-past _ _ d e (a.past-stage q) (b.past-stage q))
-    (⊎_elim (λ q. same-past _ _ d e (a.past-clock q) (b.past-clock q))
+    (⊎_elim (λ q. same-past _ _ d e (a.past_clock q) (b.past_clock q))
     (λ q. absurd q))))))
     (λ n. a.none n ∙ sym (b.none n))

@@ -12,7 +12,7 @@ use Rattle.checks.proofs.Checks.{Holds, holds→first}
 use Rattle.checks.proofs.Ranges.{below}
 use Rattle.limits.specs.declared.Table.{Table}
 use Rattle.limits.specs.Tighter.{NowhereTighter}
-use Rattle.limits.proofs.TighterLaws.{later-takes, sooner-asks, sooner-reports}
+use Rattle.limits.proofs.TighterLaws.{later_takes, sooner_asks, sooner_reports}
 use Rattle.phases.specs.Phases.{clutch_order, order_of, device_limit, phase_limit, latest_take, earliest_ask, plain_delay, error_delay}
 use Rattle.phases.proofs.PhaseLaws.{orders}
 use Rattle.shift.specs.declared.State.{State}
@@ -33,17 +33,17 @@ module _ (t u : Table) (l : NowhereTighter t u) where
   phase-limits : (o : ℕ) → o < 7 → phase_limit t o ≤ phase_limit u o
   phase-limits = below _ 7 (omega arith)
 
-  latest-takes : (o : ℕ) → o < 7 → latest_take t o ≤ latest_take u o
-  latest-takes = let e = later-takes t u l in below _ 7 (omega arith)
+  latest_takes : (o : ℕ) → o < 7 → latest_take t o ≤ latest_take u o
+  latest_takes = let e = later_takes t u l in below _ 7 (omega arith)
 
   earliest-asks : (o : ℕ) → o < 7 → earliest_ask u o ≤ earliest_ask t o
-  earliest-asks = let e = sooner-asks t u l in below _ 7 (omega arith)
+  earliest-asks = let e = sooner_asks t u l in below _ 7 (omega arith)
 
   plain-delays : (o : ℕ) → o < 7 → plain_delay u o ≤ plain_delay t o
-  plain-delays = let e = sooner-reports t u l in below _ 7 (omega arith)
+  plain-delays = let e = sooner_reports t u l in below _ 7 (omega arith)
 
   error-delays : (o : ℕ) → o < 7 → error_delay u o ≤ error_delay t o
-  error-delays = let e = sooner-reports t u l in below _ 7 (omega arith)
+  error-delays = let e = sooner_reports t u l in below _ 7 (omega arith)
 
   -- a report that is not before a bound is not before a lesser one
   reports : (b : Bool) (x y c : ℕ) → y ≤ x → T (leb (cond b x 0) c) → T (leb (cond b y 0) c)
@@ -75,7 +75,7 @@ module _ (t u : Table) (l : NowhereTighter t u) where
     kept EngineWaits h = h
     kept Take h =
         let o = orders s.phase (omega (arith, tests)) in
-        omega (arith, tests, latest-takes (order_of s.phase) o)
+        omega (arith, tests, latest_takes (order_of s.phase) o)
     kept AskClutch h =
         let o = orders s.phase (omega (arith, tests)) in
         omega (arith, tests, earliest-asks (order_of s.phase) o)

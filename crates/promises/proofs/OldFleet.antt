@@ -13,7 +13,7 @@ use contract.Lifetimes.{Lfts}
 use denote.Triple.Entry.{Args}
 use denote.Triple.Clauses.{AtExit}
 use Rattle.checks.specs.Checks.{Check, first, numbered}
-use Rattle.checks.proofs.Checks.{Holds, first→holds, holds→first, first_alone, first-left, first-right}
+use Rattle.checks.proofs.Checks.{Holds, first→holds, holds→first, first_alone, first-left, first_right}
 use Rattle.checks.proofs.Ranges.{below}
 use Rattle.checks.proofs.Tests.{tests, case, passed, left}
 use Rattle.limits.specs.declared.Table.{Table}
@@ -22,8 +22,8 @@ use Rattle.limits.specs.Limits.{undelayed}
 use Rattle.limits.specs.Refusals.{NoDelays}
 use Rattle.limits.proofs.Refusals.{zeros}
 use Rattle.phases.specs.Phases.{order_of, clutch_order, plain_entries, plain_delay, error_entries, error_delay}
-use Rattle.phases.proofs.PhaseLaws.{no-limit}
-use Rattle.phases.proofs.ByPhaseLaws.{open-or-close-of}
+use Rattle.phases.proofs.PhaseLaws.{no_limit}
+use Rattle.phases.proofs.ByPhaseLaws.{open_or_close_of}
 use Rattle.shift.specs.declared.State.{State}
 use Rattle.shift.specs.declared.Answer.{Answer}
 use Rattle.shift.specs.declared.Reading.{Reading}
@@ -35,41 +35,41 @@ use Rattle.shift.specs.Steps.{shifts_in, in_device, good_bound, failed_bound, in
 use Rattle.shift.specs.Answers.{reading, listed, guard, led, excess, answer_to, admitting}
 use Rattle.shift.specs.Runs.{after, run}
 use Rattle.shift.specs.contracts.State.step as step_call
-use Rattle.shift.proofs.State.step.Reads as step-reads
+use Rattle.shift.proofs.State.step.Reads as step_reads
 use Rattle.promises.specs.Allowed.{Listed, Shifting, OpenOrClose}
 use Rattle.promises.specs.OldFleet.{guard_before, rule_before, step_before, run_before, Ahead}
-use Rattle.promises.proofs.PlaceLaws.{within_report, too-early}
+use Rattle.promises.proofs.PlaceLaws.{within_report, too_early}
 
 module _ (t : Table) (z : NoDelays t) where
   -- every delay is 0
-  plain-delay : (o : ℕ) → plain_delay t o ≡ 0
-  plain-delay o =
-      let a = z.plain-open in
+  plain_delay_lem : (o : ℕ) → plain_delay t o ≡ 0
+  plain_delay_lem o =
+      let a = z.plain_open in
       let b = z.plain-close in
       elim (dec_lt o 5) [
         | yes h ↦ below (λ k. plain_delay t k ≡ 0) 5 (omega arith) o h
-        | no h ↦ sym (no-limit plain_entries t o (omega arith))
+        | no h ↦ sym (no_limit plain_entries t o (omega arith))
       ]
 
-  error-delay : (o : ℕ) → error_delay t o ≡ 0
-  error-delay o =
-      let a = z.error-open in
+  error_delay_lem : (o : ℕ) → error_delay t o ≡ 0
+  error_delay_lem o =
+      let a = z.error_open in
       let b = z.error-close in
       elim (dec_lt o 5) [
         | yes h ↦ below (λ k. error_delay t k ≡ 0) 5 (omega arith) o h
-        | no h ↦ sym (no-limit error_entries t o (omega arith))
+        | no h ↦ sym (no_limit error_entries t o (omega arith))
       ]
 
   module _ (s : State) where
     good-bound : good_bound t s ≡ s.stage_time
-    good-bound = let e = plain-delay (order_of s.phase) in omega arith
+    good-bound = let e = plain_delay_lem (order_of s.phase) in omega arith
 
     failed-bound : failed_bound t s ≡ s.stage_time
-    failed-bound = let e = error-delay (order_of s.phase) in omega arith
+    failed-bound = let e = error_delay_lem (order_of s.phase) in omega arith
 
     -- ---- a stage time that is not ahead of the clock
-    in-time : (bound : ℕ) → bound ≤ s.clock → first (in_report_time s bound) ≡ 0
-    in-time bound l =
+    in_time : (bound : ℕ) → bound ≤ s.clock → first (in_report_time s bound) ≡ 0
+    in_time bound l =
         case (clutch_order s.phase)
         (λ e. rw (e, le-leb bound s.clock l))
         (λ e. rw (e, le-leb 0 s.clock zero-le))
@@ -80,9 +80,9 @@ module _ (t : Table) (z : NoDelays t) where
     same-guard k (Means ToNeutral) = refl
     same-guard k (Means Deliver) = refl
     same-guard k (Means DeviceGood) =
-        sym (first_alone (listed s ++ shifts_in s working) (in_report_time s (good_bound t s)) (in-time (good_bound t s) (let e = good-bound in omega arith)))
+        sym (first_alone (listed s ++ shifts_in s working) (in_report_time s (good_bound t s)) (in_time (good_bound t s) (let e = good-bound in omega arith)))
     same-guard k (Means DeviceFailed) =
-        sym (first_alone (listed s ++ (shifts_in s working ++ in_device s)) (in_report_time s (failed_bound t s)) (in-time (failed_bound t s) (let e = failed-bound in omega arith)))
+        sym (first_alone (listed s ++ (shifts_in s working ++ in_device s)) (in_report_time s (failed_bound t s)) (in_time (failed_bound t s) (let e = failed-bound in omega arith)))
     same-guard k (Means EngineWaits) = refl
     same-guard k (Means Take) = refl
     same-guard k (Means AskClutch) = refl
@@ -94,26 +94,26 @@ module _ (t : Table) (z : NoDelays t) where
     same-guard k WrongAmount = refl
 
 -- no step leaves it ahead
-not-ahead : (s : State) → s.stage_time ≤ s.clock → (r : Reading) → (led s r).stage_time ≤ (led s r).clock
-not-ahead s k (Means FromNeutral) = omega arith
-not-ahead s k (Means GearToGear) = omega arith
-not-ahead s k (Means ToNeutral) = omega arith
-not-ahead s k (Means Deliver) = omega arith
-not-ahead s k (Means DeviceGood) = omega arith
-not-ahead s k (Means DeviceFailed) = omega arith
-not-ahead s k (Means EngineWaits) = omega arith
-not-ahead s k (Means Take) = omega arith
-not-ahead s k (Means AskClutch) = omega arith
-not-ahead s k (Means RaiseError) = omega arith
-not-ahead s k (Means Finish) = omega arith
-not-ahead s k (Means (Tick n)) = omega arith
-not-ahead s k (Means Reset) = omega arith
-not-ahead s k WrongCode = k
-not-ahead s k WrongAmount = k
+not_ahead : (s : State) → s.stage_time ≤ s.clock → (r : Reading) → (led s r).stage_time ≤ (led s r).clock
+not_ahead s k (Means FromNeutral) = omega arith
+not_ahead s k (Means GearToGear) = omega arith
+not_ahead s k (Means ToNeutral) = omega arith
+not_ahead s k (Means Deliver) = omega arith
+not_ahead s k (Means DeviceGood) = omega arith
+not_ahead s k (Means DeviceFailed) = omega arith
+not_ahead s k (Means EngineWaits) = omega arith
+not_ahead s k (Means Take) = omega arith
+not_ahead s k (Means AskClutch) = omega arith
+not_ahead s k (Means RaiseError) = omega arith
+not_ahead s k (Means Finish) = omega arith
+not_ahead s k (Means (Tick n)) = omega arith
+not_ahead s k (Means Reset) = omega arith
+not_ahead s k WrongCode = k
+not_ahead s k WrongAmount = k
 
 -- ---- tables: rule 16 is kept by four zeros
-pub admitted-as-before : (t : Table) → NoDelays t → rule_before t ≡ broken_rule t
-admitted-as-before t z =
+pub admitted_as_before : (t : Table) → NoDelays t → rule_before t ≡ broken_rule t
+admitted_as_before t z =
     let older = set_rule t ++ (engine_rules t ++ (device_rules t ++ (ask_rules t ++ route_rules t))) in
     let none = passed (undelayed t) ((zeros t).shown z) in
     sym (first_alone (numbered 1 older) (numbered 16 (delay_rules t)) (rw none))
@@ -124,10 +124,10 @@ same-run :
 same-run t z s [] k = refl
 same-run t z s (r ∷ rs) k =
     ap (λ g. after g (excess t s r g) s (run_before t (led s r) rs)) (same-guard t z s k r)
-    ∙ ap (after (guard t s r) (excess t s r (guard t s r)) s) (same-run t z (led s r) rs (not-ahead s k r))
+    ∙ ap (after (guard t s r) (excess t s r (guard t s r)) s) (same-run t z (led s r) rs (not_ahead s k r))
 
-pub nothing-changed-for-the-old-fleet : (t : Table) → NoDelays t → (rs : List Reading) → run_before t start rs ≡ run t start rs
-nothing-changed-for-the-old-fleet t z rs = same-run t z start rs (omega arith)
+pub nothing_changed_for_the_old_fleet : (t : Table) → NoDelays t → (rs : List Reading) → run_before t start rs ≡ run t start rs
+nothing_changed_for_the_old_fleet t z rs = same-run t z start rs (omega arith)
 
 -- ---- given states
 module _ (t : Table) (z : NoDelays t) (s : State) where
@@ -144,7 +144,7 @@ module _ (t : Table) (z : NoDelays t) (s : State) where
       case (within_report s bound)
       (λ w. sym (first_alone own (in_report_time s bound) (rw w)))
       (λ w.
-      let a = too-early s bound h.1 (rw w tt) in
+      let a = too_early s bound h.1 (rw w tt) in
       let l = a.1 in
       absurd (n (record { listed = h.0; phase = a.0; stage = h.2; time = omega arith; step = which }))))
       (λ q. sym (first-left own (in_report_time s bound) (eqb-false (first own) 0 q)))
@@ -176,66 +176,66 @@ module _ (t : Table) (z : NoDelays t) (s : State) where
     pub now : guard t s r ≡ 9
     pub by : excess t s r 9 ≡ s.stage_time - s.clock
 
-  refused-so : (own : List Check) (bound : ℕ) → bound ≡ s.stage_time → Holds own → OpenOrClose s → s.clock < s.stage_time → first (own ++ in_report_time s bound) ≡ 9
-  refused-so own bound e h o l =
-      let c = passed (clutch_order s.phase) (open-or-close-of s.phase o).0 in
-      first-right own (in_report_time s bound) h ∙ rw (c, lt-leb bound s.clock (omega arith))
+  refused_so : (own : List Check) (bound : ℕ) → bound ≡ s.stage_time → Holds own → OpenOrClose s → s.clock < s.stage_time → first (own ++ in_report_time s bound) ≡ 9
+  refused_so own bound e h o l =
+      let c = passed (clutch_order s.phase) (open_or_close_of s.phase o).0 in
+      first_right own (in_report_time s bound) h ∙ rw (c, lt-leb bound s.clock (omega arith))
 
   module _ (l : Listed s) (o : OpenOrClose s) (g : s.stage ≡ 2) (ahead : s.clock < s.stage_time) where
-    good-otherwise : Otherwise (Means DeviceGood)
-    good-otherwise =
-        let p = open-or-close-of s.phase o in
+    good_otherwise : Otherwise (Means DeviceGood)
+    good_otherwise =
+        let p = open_or_close_of s.phase o in
         let own = listed s ++ shifts_in s working in
         let h : Holds own = omega (arith, tests) in
         record {
           before = holds→first own h;
-          now = refused-so own (good_bound t s) (good-bound t z s) h o ahead;
+          now = refused_so own (good_bound t s) (good-bound t z s) h o ahead;
           by = ap (λ b. b - s.clock) (good-bound t z s);
         }
 
-    failed-otherwise : Otherwise (Means DeviceFailed)
-    failed-otherwise =
-        let p = open-or-close-of s.phase o in
+    failed_otherwise : Otherwise (Means DeviceFailed)
+    failed_otherwise =
+        let p = open_or_close_of s.phase o in
         let order = left (leb 3 (order_of s.phase)) (leb (order_of s.phase) 4) p.0 in
         let own = listed s ++ (shifts_in s working ++ in_device s) in
         let h : Holds own = omega (arith, tests) in
         record {
           before = holds→first own h;
-          now = refused-so own (failed_bound t s) (failed-bound t z s) h o ahead;
+          now = refused_so own (failed_bound t s) (failed-bound t z s) h o ahead;
           by = ap (λ b. b - s.clock) (failed-bound t z s);
         }
 
   pub otherwise : (r : Reading) → Ahead s r → Otherwise r
   otherwise r a =
       ⊎_elim
-      (λ e. subst Otherwise (sym e) (good-otherwise a.listed a.phase a.stage a.time))
-      (λ e. subst Otherwise (sym e) (failed-otherwise a.listed a.phase a.stage a.time))
+      (λ e. subst Otherwise (sym e) (good_otherwise a.listed a.phase a.stage a.time))
+      (λ e. subst Otherwise (sym e) (failed_otherwise a.listed a.phase a.stage a.time))
       a.step
 
 -- ---- whatever the contract of `State::step` allows under an admitted table with four zeros: as before, but for what lies ahead
 module _
     (κs : Lfts 0) (given : Args step_call.signature κs) (a : Answer) (at : AtExit step_call.ended κs)
-    (call : step-reads.Post κs given a at) where
+    (call : step_reads.Post κs given a at) where
   abbrev read : Reading
   read = reading given.1.1.0 0 given.1.1.1.0
 
-  pub a-step-is-answered-as-before : NoDelays given.1.0 → ¬ Ahead given.0 read → a ≡ step_before given.1.0 given.0 given.1.1.0 given.1.1.1.0
-  a-step-is-answered-as-before z n =
+  pub a_step_is_answered_as_before : NoDelays given.1.0 → ¬ Ahead given.0 read → a ≡ step_before given.1.0 given.0 given.1.1.0 given.1.1.1.0
+  a_step_is_answered_as_before z n =
       let t = given.1.0 in
       let s = given.0 in
       call
-      ∙ ap (λ k. admitting k (answer_to t s read (guard t s read)) s) (sym (admitted-as-before t z))
+      ∙ ap (λ k. admitting k (answer_to t s read (guard t s read)) s) (sym (admitted_as_before t z))
       ∙ ap (λ g. admitting (rule_before t) (answer_to t s read g) s) (sym (as_before t z s read n))
 
-  pub a-step-that-is-answered-otherwise :
+  pub a_step_that_is_answered_otherwise :
       NoDelays given.1.0 → broken_rule given.1.0 ≡ 0 → Ahead given.0 read
       → ((step_before given.1.0 given.0 given.1.1.0 given.1.1.1.0).number ≡ 0)
       × (a ≡ record { number = 9; rule = 0; excess = given.0.stage_time - given.0.clock; state = given.0 })
-  a-step-that-is-answered-otherwise z admitted h =
+  a_step_that_is_answered_otherwise z admitted h =
       let t = given.1.0 in
       let s = given.0 in
       let o = otherwise t z s read h in (
-        rw (admitted-as-before t z, admitted, o.before),
+        rw (admitted_as_before t z, admitted, o.before),
         call
             ∙ ap (λ k. admitting k (answer_to t s read (guard t s read)) s) admitted
             ∙ ap (λ g. answer_to t s read g) o.now

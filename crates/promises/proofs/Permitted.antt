@@ -8,7 +8,7 @@ use Rattle.checks.proofs.Tests.{tests}
 use Rattle.checks.proofs.Checks.{Holds, holds→first}
 use Rattle.limits.specs.declared.Table.{Table}
 use Rattle.phases.specs.Phases.{order_of}
-use Rattle.phases.proofs.ByPhaseLaws.{de-in, plain-delay-in, error-delay-in}
+use Rattle.phases.proofs.ByPhaseLaws.{de_in_lem, plain_delay_in_lem, error_delay_in_lem}
 use Rattle.shift.specs.declared.State.{State}
 use Rattle.shift.specs.declared.Reading.{Reading}
 use Rattle.shift.specs.declared.Reading.TheVariants.{Means, WrongCode, WrongAmount}
@@ -18,7 +18,7 @@ use Rattle.shift.specs.Steps.{good_bound, failed_bound}
 use Rattle.shift.specs.Answers.{checks, guard}
 use Rattle.promises.specs.Allowed.{Shifting, Permitted}
 use Rattle.promises.proofs.Runs.{checked}
-use Rattle.promises.proofs.PlaceLaws.{within_ex, within_report, within_stage, within_phase, passing, engine-phase, engine-order, in-report-time, too-early, in-take-time, too-late, in-channel-time, in-device-time, past-stage, in-phase-time, past-phase}
+use Rattle.promises.proofs.PlaceLaws.{within_ex, within_report, within_stage, within_phase, passing, engine-phase, engine_order, in_report_time_lem, too_early, in_take_time_lem, too_late, in_channel_time, in_device_time, past-stage, in_phase_time, past-phase}
 
 -- ---- what the checks of a step say, in the document's words
 module _ (t : Table) (s : State) where
@@ -29,26 +29,26 @@ module _ (t : Table) (s : State) where
   said Deliver h = omega (arith, tests)
   said DeviceGood h =
       let z : Shifting s = omega (arith, tests) in
-      let delay = plain-delay-in t s.phase z.0 (omega arith) in
-      (omega (arith, tests), (z, omega (arith, tests), λ c. let l = in-report-time s (good_bound t s) h.1.1.1.1.1.1.0 c in omega arith))
+      let delay = plain_delay_in_lem t s.phase z.0 (omega arith) in
+      (omega (arith, tests), (z, omega (arith, tests), λ c. let l = in_report_time_lem s (good_bound t s) h.1.1.1.1.1.1.0 c in omega arith))
   said DeviceFailed h =
       let z : Shifting s = omega (arith, tests) in
-      let delay = error-delay-in t s.phase z.0 (omega arith) in (
+      let delay = error_delay_in_lem t s.phase z.0 (omega arith) in (
         omega (arith, tests),
         (
           z,
           omega (arith, tests),
-          λ e. let o = engine-order s e in omega (arith, tests),
-          λ c. let l = in-report-time s (failed_bound t s) h.1.1.1.1.1.1.1.0 c in omega arith,
+          λ e. let o = engine_order s e in omega (arith, tests),
+          λ c. let l = in_report_time_lem s (failed_bound t s) h.1.1.1.1.1.1.1.0 c in omega arith,
         ),
       )
   said EngineWaits h =
       let z : Shifting s = omega (arith, tests) in
       (omega (arith, tests), (engine-phase s z (omega (arith, tests)), omega (arith, tests)))
-  said Take h = (omega (arith, tests), (omega (arith, tests), omega (arith, tests), in-take-time t s h.1.1.1.1.1.1.0))
+  said Take h = (omega (arith, tests), (omega (arith, tests), omega (arith, tests), in_take_time_lem t s h.1.1.1.1.1.1.0))
   said AskClutch h =
       let z : Shifting s = omega (arith, tests) in
-      let de = de-in t s.phase z.0 (omega arith) in
+      let de = de_in_lem t s.phase z.0 (omega arith) in
       (omega (arith, tests), (engine-phase s z (omega (arith, tests)), omega (arith, tests), omega (arith, tests)))
   said RaiseError h = omega (arith, tests)
   said Finish h = omega (arith, tests)
@@ -58,9 +58,9 @@ module _ (t : Table) (s : State) where
         (
           omega (arith, tests),
           λ z. record {
-            channel = in-channel-time t s now h.1.1.1.1.0 z;
-            device = in-device-time t s now h.1.1.1.1.0 z;
-            phase = in-phase-time t s now h.1.1.1.1.1.0 z;
+            channel = in_channel_time t s now h.1.1.1.1.0 z;
+            device = in_device_time t s now h.1.1.1.1.0 z;
+            phase = in_phase_time t s now h.1.1.1.1.1.0 z;
           },
         ),
       )
@@ -73,10 +73,10 @@ module _ (t : Table) (s : State) where
   meant ToNeutral h = omega (arith, tests)
   meant Deliver h = omega (arith, tests)
   meant DeviceGood h =
-      let delay = plain-delay-in t s.phase h.1.0.0 (let l = h.1.0.1 in omega arith) in
+      let delay = plain_delay_in_lem t s.phase h.1.0.0 (let l = h.1.0.1 in omega arith) in
       let e =
       passing (within_report s (good_bound t s)) (λ n.
-      let w = too-early s (good_bound t s) h.1.0 n in
+      let w = too_early s (good_bound t s) h.1.0 n in
       let l = h.1.2 w.0 in
       let m = w.1 in
       omega arith)
@@ -84,22 +84,22 @@ module _ (t : Table) (s : State) where
       omega (arith, tests)
   meant DeviceFailed h =
       let m : ¬ (order_of s.phase ≤ 2) = λ l. h.1.2 (engine-phase s h.1.0 l) in
-      let delay = error-delay-in t s.phase h.1.0.0 (let l = h.1.0.1 in omega arith) in
+      let delay = error_delay_in_lem t s.phase h.1.0.0 (let l = h.1.0.1 in omega arith) in
       let e =
       passing (within_report s (failed_bound t s)) (λ n.
-      let w = too-early s (failed_bound t s) h.1.0 n in
+      let w = too_early s (failed_bound t s) h.1.0 n in
       let l = h.1.3 w.0 in
       let m = w.1 in
       omega arith)
       in
       omega (arith, tests)
-  meant EngineWaits h = let o = engine-order s h.1.0 in omega (arith, tests)
+  meant EngineWaits h = let o = engine_order s h.1.0 in omega (arith, tests)
   meant Take h =
-      let e = passing (within_ex t s) (λ n. let w = too-late t s h.1.0 n in let l = h.1.2 w.0 in omega arith) in
+      let e = passing (within_ex t s) (λ n. let w = too_late t s h.1.0 n in let l = h.1.2 w.0 in omega arith) in
       omega (arith, tests)
   meant AskClutch h =
-      let o = engine-order s h.1.0 in
-      let de = de-in t s.phase o.1 (omega arith) in
+      let o = engine_order s h.1.0 in
+      let de = de_in_lem t s.phase o.1 (omega arith) in
       omega (arith, tests)
   meant RaiseError h = omega (arith, tests)
   meant Finish h = omega (arith, tests)

@@ -13,11 +13,11 @@ use Rattle.checks.proofs.Tests.{tests, case, passed, passes, right}
 use Rattle.limits.specs.declared.Table.{Table}
 use Rattle.phases.specs.Phases.{order_of, unfinished, engine, clutch_order, device_limit}
 use Rattle.phases.specs.ByPhase.{device_limit_in, phase_limit_in, ex_in}
-use Rattle.phases.proofs.PhaseLaws.{ordered, unfinished-in}
-use Rattle.phases.proofs.ByPhaseLaws.{among, each, device-limit-in, phase-limit-in, ex-in, engine-in, engine-of, open-or-close-in, open-or-close-of}
+use Rattle.phases.proofs.PhaseLaws.{ordered, unfinished_in}
+use Rattle.phases.proofs.ByPhaseLaws.{among, each, device_limit_in_lem, phase_limit_in_lem, ex_in_lem, engine_in, engine_of, open_or_close_in, open_or_close_of}
 use Rattle.shift.specs.declared.State.{State}
 use Rattle.shift.specs.Steps.{take_bound, stage_bound, phase_bound, limited}
-use Rattle.shift.proofs.StepLaws.{by-channel, limits, limited-in, shifting}
+use Rattle.shift.proofs.StepLaws.{by_channel, limits, limited_in, shifting}
 use Rattle.promises.specs.Allowed.{Shifting, Engine, OpenOrClose}
 
 pub passing : (b : Bool) → ¬ T (not b) → T b
@@ -29,11 +29,11 @@ module _ (s : State) where
   pub engine-phase : Shifting s → order_of s.phase ≤ 2 → Engine s
   engine-phase z m =
       let l = ordered s.phase z.0 (omega arith) in
-      engine-in s.phase z.0 (omega arith) (rw (le-leb 1 (order_of s.phase) l, le-leb (order_of s.phase) 2 m) tt)
+      engine_in s.phase z.0 (omega arith) (rw (le-leb 1 (order_of s.phase) l, le-leb (order_of s.phase) 2 m) tt)
 
-  pub engine-order : Engine s → (order_of s.phase ≤ 2) × (1 ≤ s.phase) × (s.phase ≤ 21)
-  engine-order z =
-      let o = engine-of s.phase z in
+  pub engine_order : Engine s → (order_of s.phase ≤ 2) × (1 ≤ s.phase) × (s.phase ≤ 21)
+  engine_order z =
+      let o = engine_of s.phase z in
       (leb→le (order_of s.phase) 2 (right (leb 1 (order_of s.phase)) (leb (order_of s.phase) 2) o.0), o.1, o.2)
 
 -- ---- the tests of the times
@@ -51,44 +51,44 @@ within_phase t s now = leb (cond (unfinished s.phase) now 0) (phase_bound t s)
 
 -- ---- the delays of the clutch: good and failed not before a bound
 module _ (s : State) (bound : ℕ) where
-  pub in-report-time : T (within_report s bound) → OpenOrClose s → bound ≤ s.clock
-  in-report-time h z =
-      let o = open-or-close-of s.phase z in
+  pub in_report_time_lem : T (within_report s bound) → OpenOrClose s → bound ≤ s.clock
+  in_report_time_lem h z =
+      let o = open_or_close_of s.phase z in
       let l = rw (passed (clutch_order s.phase) o.0) at h in
       omega (arith, tests)
 
-  pub too-early : Shifting s → T (not (within_report s bound)) → OpenOrClose s × (s.clock < bound)
-  too-early z h =
+  pub too_early : Shifting s → T (not (within_report s bound)) → OpenOrClose s × (s.clock < bound)
+  too_early z h =
       case (clutch_order s.phase)
       (λ e.
       let l = rw e at h in
-      (open-or-close-in s.phase z.0 (omega arith) (passes (clutch_order s.phase) e), omega (arith, tests)))
+      (open_or_close_in s.phase z.0 (omega arith) (passes (clutch_order s.phase) e), omega (arith, tests)))
       (λ e. let l = rw e at h in absurd (omega (arith, tests)))
 
 module _ (t : Table) (s : State) where
   -- ---- the EX of a take
-  pub in-take-time :
+  pub in_take_time_lem :
       T (within_ex t s) → Engine s → s.clock ≤ s.phase_time + ex_in t s.phase
-  in-take-time h z =
-      let o = engine-of s.phase z in
-      let ex = ex-in t s.phase o.1 (omega arith) in
+  in_take_time_lem h z =
+      let o = engine_of s.phase z in
+      let ex = ex_in_lem t s.phase o.1 (omega arith) in
       let l = rw (passed (engine s.phase) o.0) at h in
       omega (arith, tests)
 
-  pub too-late :
+  pub too_late :
       Shifting s → T (not (within_ex t s))
       → Engine s × (s.phase_time + ex_in t s.phase < s.clock)
-  too-late z h =
-      let ex = ex-in t s.phase z.0 (omega arith) in
+  too_late z h =
+      let ex = ex_in_lem t s.phase z.0 (omega arith) in
       case (engine s.phase)
       (λ e.
       let l = rw e at h in
-      (engine-in s.phase z.0 (omega arith) (passes (engine s.phase) e), omega (arith, tests)))
+      (engine_in s.phase z.0 (omega arith) (passes (engine s.phase) e), omega (arith, tests)))
       (λ e. let l = rw e at h in absurd (omega (arith, tests)))
 
   -- ---- the limits of a tick, by stage and by phase
-  on-channel : 1 ≤ s.stage → s.stage ≤ 3 → ¬ (s.stage ≡ 2) → OneOf (1 ∷ 3 ∷ []) s.stage
-  on-channel l m n =
+  on_channel : 1 ≤ s.stage → s.stage ≤ 3 → ¬ (s.stage ≡ 2) → OneOf (1 ∷ 3 ∷ []) s.stage
+  on_channel l m n =
       among (1 ∷ 3 ∷ []) s.stage
       (λ o. o)
       (λ o.
@@ -97,21 +97,21 @@ module _ (t : Table) (s : State) where
       absurd (omega arith))
 
   module _ (now : ℕ) where
-    pub in-channel-time :
+    pub in_channel_time :
         T (within_stage t s now) → Shifting s → OneOf (1 ∷ 3 ∷ []) s.stage
         → now ≤ s.stage_time + t.channel_dl
-    in-channel-time h z o =
+    in_channel_time h z o =
         let g = each (λ k. (1 ≤ k) × (k ≤ 3) × ¬ (k ≡ 2)) (1 ∷ 3 ∷ []) (omega arith) s.stage o in
         let held = limits s now z.0 z.1 g.0 g.1 in
-        let ch = by-channel t.channel_dl (device_limit t (order_of s.phase)) s.stage g.0 (omega arith) g.2 in
+        let ch = by_channel t.channel_dl (device_limit t (order_of s.phase)) s.stage g.0 (omega arith) g.2 in
         omega (arith, tests)
 
-    pub in-device-time :
+    pub in_device_time :
         T (within_stage t s now) → Shifting s → s.stage ≡ 2
         → now ≤ s.stage_time + device_limit_in t s.phase
-    in-device-time h z e =
+    in_device_time h z e =
         let held = limits s now z.0 z.1 (omega arith) (omega arith) in
-        let dev = device-limit-in t s.phase z.0 (omega arith) in
+        let dev = device_limit_in_lem t s.phase z.0 (omega arith) in
         let l = rw (held, e) at h in
         omega (arith, tests)
 
@@ -123,25 +123,25 @@ module _ (t : Table) (s : State) where
     past-stage h =
         case (limited s)
         (λ e.
-        let z = limited-in s (passes (limited s) e) in
+        let z = limited_in s (passes (limited s) e) in
         let l = rw e at h in
         case (eqb s.stage 2)
         (λ f.
         let g = eqb-true s.stage 2 f in
-        let dev = device-limit-in t s.phase z.0 (omega arith) in
+        let dev = device_limit_in_lem t s.phase z.0 (omega arith) in
         let m = rw g at l in
         ((z.0, z.1), inr (g, omega (arith, tests))))
         (λ f.
         let n = eqb-false s.stage 2 f in
-        let ch = by-channel t.channel_dl (device_limit t (order_of s.phase)) s.stage z.2 (omega arith) n in
-        ((z.0, z.1), inl (on-channel z.2 z.3 n, omega (arith, tests)))))
+        let ch = by_channel t.channel_dl (device_limit t (order_of s.phase)) s.stage z.2 (omega arith) n in
+        ((z.0, z.1), inl (on_channel z.2 z.3 n, omega (arith, tests)))))
         (λ e. let l = rw e at h in absurd (omega (arith, tests)))
 
-    pub in-phase-time :
+    pub in_phase_time :
         T (within_phase t s now) → Shifting s → now ≤ s.phase_time + phase_limit_in t s.phase
-    in-phase-time h z =
+    in_phase_time h z =
         let held = shifting s.phase now z.0 z.1 in
-        let lim = phase-limit-in t s.phase z.0 (omega arith) in
+        let lim = phase_limit_in_lem t s.phase z.0 (omega arith) in
         omega (arith, tests)
 
     pub past-phase :
@@ -150,8 +150,8 @@ module _ (t : Table) (s : State) where
     past-phase h =
         case (unfinished s.phase)
         (λ e.
-        let z = unfinished-in s.phase (passes (unfinished s.phase) e) in
-        let lim = phase-limit-in t s.phase z.0 (omega arith) in
+        let z = unfinished_in s.phase (passes (unfinished s.phase) e) in
+        let lim = phase_limit_in_lem t s.phase z.0 (omega arith) in
         let l = rw e at h in
         (z, omega (arith, tests)))
         (λ e. let l = rw e at h in absurd (omega (arith, tests)))

@@ -14,7 +14,7 @@ use Rattle.checks.proofs.ConditionLaws.{first_of}
 use Rattle.checks.proofs.Tests.{tests, case, passes, left, right}
 use Rattle.limits.specs.declared.Table.{Table}
 use Rattle.phases.specs.Phases.{order_of}
-use Rattle.phases.proofs.ByPhaseLaws.{each, de-in, plain-delay-in, error-delay-in}
+use Rattle.phases.proofs.ByPhaseLaws.{each, de_in_lem, plain_delay_in_lem, error_delay_in_lem}
 use Rattle.shift.specs.declared.State.{State}
 use Rattle.shift.specs.declared.Step.{Step}
 use Rattle.shift.specs.declared.Step.TheVariants.{FromNeutral, GearToGear, ToNeutral, Deliver, DeviceGood, DeviceFailed, EngineWaits, Take, AskClutch, RaiseError, Finish, Tick, Reset}
@@ -27,13 +27,13 @@ use Rattle.shift.specs.Refusals.{code_of, amount_of, Reads}
 use Rattle.shift.proofs.Refusals.{reads}
 use Rattle.promises.specs.Refusals.{placings, ByCode, Misplaced, WrongSide, TooEarly, TooLate, PastClock, PastStage, PastPhase, record_refusals}
 use Rattle.promises.proofs.Permitted.{said, meant}
-use Rattle.promises.proofs.PlaceLaws.{within_ex, within_report, engine-phase, engine-order, in-report-time, too-early, in-take-time, too-late, in-channel-time, in-device-time, past-stage, in-phase-time, past-phase}
+use Rattle.promises.proofs.PlaceLaws.{within_ex, within_report, engine-phase, engine_order, in_report_time_lem, too_early, in_take_time_lem, too_late, in_channel_time, in_device_time, past-stage, in_phase_time, past-phase}
 
 -- ---- the number of some checks: by one, or by several with one number, and by those behind them
-pub by-test :
+pub by_test :
     (P : ℕ → Type 0) (b : Bool) (k : ℕ) (rest : List Check) → (T b → P (first rest)) → (T (not b) → P k) → P (first ((b ! k) ∷ rest))
-by-test P true k rest f g = f tt
-by-test P false k rest f g = g tt
+by_test P true k rest f g = f tt
+by_test P false k rest f g = g tt
 
 abbrev pub only : ℕ → List Check → Bool
 only k [] = true
@@ -51,7 +51,7 @@ behind P (c ∷ cs) rest k o f g =
 test :
     (b : Bool) (k : ℕ) (P : Type 0) (ws : List Condition) (rest : List Check)
     → (T b → ¬ P) → (T (not b) → P) → (T b → FirstOf ws (first rest)) → FirstOf ((P gives k) ∷ ws) (first ((b ! k) ∷ rest))
-test b k P ws rest f g r = by-test (FirstOf ((P gives k) ∷ ws)) b k rest (λ t. inr (f t, r t)) (λ t. inl (g t, refl))
+test b k P ws rest f g r = by_test (FirstOf ((P gives k) ∷ ws)) b k rest (λ t. inr (f t, r t)) (λ t. inl (g t, refl))
 
 several :
     (cs rest : List Check) (k : ℕ) (P : Type 0) (ws : List Condition)
@@ -61,84 +61,84 @@ several cs rest k P ws o f g r =
     behind (FirstOf ((P gives k) ∷ ws)) cs rest k o (λ n. inl (g n, refl)) (λ h. inr (f h, r h))
 
 -- ---- what a step is refused with, on the state: 7 and on, 8 and on, 9 and on, 13 and on
-abbrev from-13 : Table → State → ℕ → ℕ → List Condition
-from-13 t s code amount =
+abbrev from_13 : Table → State → ℕ → ℕ → List Condition
+from_13 t s code amount =
     (PastClock s code amount gives 13) ∷ (PastStage t s code amount gives 12) ∷ (PastPhase t s code amount gives 11) ∷ []
 
-abbrev from-9 : Table → State → ℕ → ℕ → List Condition
-from-9 t s code amount = (TooEarly t s code gives 9) ∷ (TooLate t s code gives 10) ∷ from-13 t s code amount
+abbrev from_9 : Table → State → ℕ → ℕ → List Condition
+from_9 t s code amount = (TooEarly t s code gives 9) ∷ (TooLate t s code gives 10) ∷ from_13 t s code amount
 
-abbrev from-8 : Table → State → ℕ → ℕ → List Condition
-from-8 t s code amount = (WrongSide s code gives 8) ∷ from-9 t s code amount
+abbrev from_8 : Table → State → ℕ → ℕ → List Condition
+from_8 t s code amount = (WrongSide s code gives 8) ∷ from_9 t s code amount
 
-abbrev from-7 : Table → State → ℕ → ℕ → List Condition
-from-7 t s code amount = (Misplaced s code gives 7) ∷ from-8 t s code amount
+abbrev from_7 : Table → State → ℕ → ℕ → List Condition
+from_7 t s code amount = (Misplaced s code gives 7) ∷ from_8 t s code amount
 
 module _ (t : Table) (s : State) (amount : ℕ) where
   -- no request, no tick, nothing that has its time
-  pub no-request : (code : ℕ) → 4 ≤ code → ¬ WrongSide s code
-  no-request code l h =
+  pub no_request : (code : ℕ) → 4 ≤ code → ¬ WrongSide s code
+  no_request code l h =
       ⊎_elim
       (λ e. let q = e.0 in omega arith)
       (λ e. let q = each (λ k. k ≤ 3) (2 ∷ 3 ∷ []) (omega arith) code e.0 in omega arith)
       h.1
 
-  no-tick : (code : ℕ) → ¬ (code ≡ 12) → FirstOf (from-13 t s code amount) 0
-  no-tick code n = inr (λ h. n h.0, inr (λ h. n h.0, inr (λ h. n h.0, refl)))
+  no_tick : (code : ℕ) → ¬ (code ≡ 12) → FirstOf (from_13 t s code amount) 0
+  no_tick code n = inr (λ h. n h.0, inr (λ h. n h.0, inr (λ h. n h.0, refl)))
 
   pub never-early : (code : ℕ) → ¬ (code ≡ 5) × ¬ (code ≡ 6) × ¬ (code ≡ 9) → ¬ TooEarly t s code
   never-early code n h = ⊎_elim (λ e. n.2 e.0) (⊎_elim (λ e. n.0 e.0) (λ e. n.1 e.0)) h
 
   untimed :
-      (code : ℕ) → (¬ (code ≡ 5) × ¬ (code ≡ 6) × ¬ (code ≡ 9)) × ¬ (code ≡ 8) × ¬ (code ≡ 12) → FirstOf (from-9 t s code amount) 0
-  untimed code n = inr (never-early code n.0, inr (λ h. n.1 h.0, no-tick code n.2))
+      (code : ℕ) → (¬ (code ≡ 5) × ¬ (code ≡ 6) × ¬ (code ≡ 9)) × ¬ (code ≡ 8) × ¬ (code ≡ 12) → FirstOf (from_9 t s code amount) 0
+  untimed code n = inr (never-early code n.0, inr (λ h. n.1 h.0, no_tick code n.2))
 
   -- deliver, engine waits, raise error, finish and reset: 7
   placed :
       (code : ℕ) (x : Step) → T (only 7 (checks t s (Means x)))
       → (Permitted t s (Means x) ↔ (Listed s × ByCode (placings s) code))
       → (4 ≤ code) × (¬ (code ≡ 5) × ¬ (code ≡ 6) × ¬ (code ≡ 9)) × ¬ (code ≡ 8) × ¬ (code ≡ 12)
-      → FirstOf (from-7 t s code amount) (guard t s (Means x))
+      → FirstOf (from_7 t s code amount) (guard t s (Means x))
   placed code x o same n =
       let own = checks t s (Means x) in
-      subst (λ (cs : List Check). FirstOf (from-7 t s code amount) (first cs)) (append-nil own)
-      (several own [] 7 (Misplaced s code) (from-8 t s code amount) o
+      subst (λ (cs : List Check). FirstOf (from_7 t s code amount) (first cs)) (append-nil own)
+      (several own [] 7 (Misplaced s code) (from_8 t s code amount) o
       (λ h m. m (same.0 (said t s x h)))
       (λ h p. h (meant t s x (same.1 p)))
-      (λ h. inr (no-request code n.0, untimed code (n.1, n.2, n.3))))
+      (λ h. inr (no_request code n.0, untimed code (n.1, n.2, n.3))))
 
   -- the requests: 7 and 8
   request :
       (code side : ℕ) → code ≤ 3
       → ByCode (placings s) code ↔ (s.phase ≡ 0)
       → ((s.phase ≡ 0) × ¬ (s.gear_box ≡ side)) ↔ WrongSide s code
-      → FirstOf (from-7 t s code amount) (first (listed s ++ rests_in s side))
+      → FirstOf (from_7 t s code amount) (first (listed s ++ rests_in s side))
   request code side l same wrong =
-      several (listed s ++ ((eqb s.phase 0 ! 7) ∷ [])) ((eqb s.gear_box side ! 8) ∷ []) 7 (Misplaced s code) (from-8 t s code amount) tt
+      several (listed s ++ ((eqb s.phase 0 ! 7) ∷ [])) ((eqb s.gear_box side ! 8) ∷ []) 7 (Misplaced s code) (from_8 t s code amount) tt
       (λ h m. m (omega (arith, tests), same.1 (omega (arith, tests))))
       (λ n p. n (let a = p.0 in let b = same.0 p.1 in omega (arith, tests)))
       (λ h.
-      test (eqb s.gear_box side) 8 (WrongSide s code) (from-9 t s code amount) []
+      test (eqb s.gear_box side) 8 (WrongSide s code) (from_9 t s code amount) []
       (λ b w. let v = (wrong.1 w).1 in v (eqb→eq s.gear_box side b))
       (λ b. wrong.0 (omega (arith, tests), omega (arith, tests)))
       (λ b. untimed code (omega arith)))
 
   -- take: 7 and 10
-  take : FirstOf (from-7 t s 8 amount) (guard t s (Means Take))
+  take : FirstOf (from_7 t s 8 amount) (guard t s (Means Take))
   take =
-      several (listed s ++ shifts_in s 3) (in_take_time t s) 7 (Misplaced s 8) (from-8 t s 8 amount) tt
+      several (listed s ++ shifts_in s 3) (in_take_time t s) 7 (Misplaced s 8) (from_8 t s 8 amount) tt
       (λ h m. m (omega (arith, tests)))
       (λ n p. n (omega (arith, tests)))
       (λ h.
       let z : Shifting s = omega (arith, tests) in
       inr (
-        no-request 8 (omega arith),
+        no_request 8 (omega arith),
         inr (
           never-early 8 (omega arith),
-          test (within_ex t s) 10 (TooLate t s 8) (from-13 t s 8 amount) []
-              (λ b w. let l = in-take-time t s b w.1 in let m = w.2 in omega arith)
-              (λ b. let w = too-late t s z b in (refl, w.0, w.1))
-              (λ b. no-tick 8 (omega arith)),
+          test (within_ex t s) 10 (TooLate t s 8) (from_13 t s 8 amount) []
+              (λ b w. let l = in_take_time_lem t s b w.1 in let m = w.2 in omega arith)
+              (λ b. let w = too_late t s z b in (refl, w.0, w.1))
+              (λ b. no_tick 8 (omega arith)),
         ),
       ))
 
@@ -146,83 +146,83 @@ module _ (t : Table) (s : State) (amount : ℕ) where
   reported :
       (code bound : ℕ) → (4 ≤ code) × ¬ (code ≡ 8) × ¬ (code ≡ 12) → Shifting s
       → (OpenOrClose s × (s.clock < bound)) ↔ TooEarly t s code
-      → FirstOf (from-8 t s code amount) (first (in_report_time s bound))
+      → FirstOf (from_8 t s code amount) (first (in_report_time s bound))
   reported code bound n z early =
       inr (
-        no-request code n.0,
-        test (within_report s bound) 9 (TooEarly t s code) ((TooLate t s code gives 10) ∷ from-13 t s code amount) []
-            (λ b w. let e = early.1 w in let l = in-report-time s bound b e.0 in let m = e.1 in omega arith)
-            (λ b. early.0 (too-early s bound z b))
-            (λ b. inr (λ w. n.1 w.0, no-tick code n.2)),
+        no_request code n.0,
+        test (within_report s bound) 9 (TooEarly t s code) ((TooLate t s code gives 10) ∷ from_13 t s code amount) []
+            (λ b w. let e = early.1 w in let l = in_report_time_lem s bound b e.0 in let m = e.1 in omega arith)
+            (λ b. early.0 (too_early s bound z b))
+            (λ b. inr (λ w. n.1 w.0, no_tick code n.2)),
       )
 
-  pub good-too-early : Shifting s → (OpenOrClose s × (s.clock < good_bound t s)) ↔ TooEarly t s 5
-  good-too-early z =
-      let delay = plain-delay-in t s.phase z.0 (let l = z.1 in omega arith) in (
+  pub good_too_early : Shifting s → (OpenOrClose s × (s.clock < good_bound t s)) ↔ TooEarly t s 5
+  good_too_early z =
+      let delay = plain_delay_in_lem t s.phase z.0 (let l = z.1 in omega arith) in (
         λ e. let l = e.1 in inr (inl (refl, e.0, omega arith)),
         ⊎_elim (λ w. absurd (let e = w.0 in omega arith)) (⊎_elim (λ w. let l = w.2 in (w.1, omega arith)) (λ w. absurd (let e = w.0 in omega arith))),
       )
 
-  pub failed-too-early : Shifting s → (OpenOrClose s × (s.clock < failed_bound t s)) ↔ TooEarly t s 6
-  failed-too-early z =
-      let delay = error-delay-in t s.phase z.0 (let l = z.1 in omega arith) in (
+  pub failed_too_early : Shifting s → (OpenOrClose s × (s.clock < failed_bound t s)) ↔ TooEarly t s 6
+  failed_too_early z =
+      let delay = error_delay_in_lem t s.phase z.0 (let l = z.1 in omega arith) in (
         λ e. let l = e.1 in inr (inr (refl, e.0, omega arith)),
         ⊎_elim (λ w. absurd (let e = w.0 in omega arith)) (⊎_elim (λ w. absurd (let e = w.0 in omega arith)) (λ w. let l = w.2 in (w.1, omega arith))),
       )
 
-  pub ask-too-early : Shifting s → (s.clock < ask_bound t s) ↔ TooEarly t s 9
-  ask-too-early z =
-      let de = de-in t s.phase z.0 (let l = z.1 in omega arith) in (
+  pub ask_too_early : Shifting s → (s.clock < ask_bound t s) ↔ TooEarly t s 9
+  ask_too_early z =
+      let de = de_in_lem t s.phase z.0 (let l = z.1 in omega arith) in (
         λ l. inl (refl, omega arith),
         ⊎_elim (λ w. let l = w.1 in omega arith) (⊎_elim (λ w. absurd (let e = w.0 in omega arith)) (λ w. absurd (let e = w.0 in omega arith))),
       )
 
-  good : FirstOf (from-7 t s 5 amount) (guard t s (Means DeviceGood))
+  good : FirstOf (from_7 t s 5 amount) (guard t s (Means DeviceGood))
   good =
-      several (listed s ++ shifts_in s 2) (in_report_time s (good_bound t s)) 7 (Misplaced s 5) (from-8 t s 5 amount) tt
+      several (listed s ++ shifts_in s 2) (in_report_time s (good_bound t s)) 7 (Misplaced s 5) (from_8 t s 5 amount) tt
       (λ h m. m (omega (arith, tests)))
       (λ n p. n (omega (arith, tests)))
-      (λ h. let z : Shifting s = omega (arith, tests) in reported 5 (good_bound t s) (omega arith) z (good-too-early z))
+      (λ h. let z : Shifting s = omega (arith, tests) in reported 5 (good_bound t s) (omega arith) z (good_too_early z))
 
-  failed : FirstOf (from-7 t s 6 amount) (guard t s (Means DeviceFailed))
+  failed : FirstOf (from_7 t s 6 amount) (guard t s (Means DeviceFailed))
   failed =
-      several (listed s ++ (shifts_in s 2 ++ in_device s)) (in_report_time s (failed_bound t s)) 7 (Misplaced s 6) (from-8 t s 6 amount) tt
-      (λ h m. m (omega (arith, tests), (omega (arith, tests), omega (arith, tests), λ e. let o = engine-order s e in omega (arith, tests))))
+      several (listed s ++ (shifts_in s 2 ++ in_device s)) (in_report_time s (failed_bound t s)) 7 (Misplaced s 6) (from_8 t s 6 amount) tt
+      (λ h m. m (omega (arith, tests), (omega (arith, tests), omega (arith, tests), λ e. let o = engine_order s e in omega (arith, tests))))
       (λ n p. n (let o : ¬ (order_of s.phase ≤ 2) = λ l. p.1.2 (engine-phase s p.1.0 l) in omega (arith, tests)))
-      (λ h. let z : Shifting s = omega (arith, tests) in reported 6 (failed_bound t s) (omega arith) z (failed-too-early z))
+      (λ h. let z : Shifting s = omega (arith, tests) in reported 6 (failed_bound t s) (omega arith) z (failed_too_early z))
 
   -- ask clutch: 7 and 9
-  ask : FirstOf (from-7 t s 9 amount) (guard t s (Means AskClutch))
+  ask : FirstOf (from_7 t s 9 amount) (guard t s (Means AskClutch))
   ask =
-      several (listed s ++ (shifts_in s 5 ++ in_engine s)) (in_ask_time t s) 7 (Misplaced s 9) (from-8 t s 9 amount) tt
+      several (listed s ++ (shifts_in s 5 ++ in_engine s)) (in_ask_time t s) 7 (Misplaced s 9) (from_8 t s 9 amount) tt
       (λ h m. m (omega (arith, tests), (engine-phase s (omega (arith, tests)) (omega (arith, tests)), omega (arith, tests))))
-      (λ n p. n (let o = engine-order s p.1.0 in omega (arith, tests)))
+      (λ n p. n (let o = engine_order s p.1.0 in omega (arith, tests)))
       (λ h.
       let z : Shifting s = omega (arith, tests) in
-      let early = ask-too-early z in
+      let early = ask_too_early z in
       inr (
-        no-request 9 (omega arith),
-        test (leb (ask_bound t s) s.clock) 9 (TooEarly t s 9) ((TooLate t s 9 gives 10) ∷ from-13 t s 9 amount) []
+        no_request 9 (omega arith),
+        test (leb (ask_bound t s) s.clock) 9 (TooEarly t s 9) ((TooLate t s 9 gives 10) ∷ from_13 t s 9 amount) []
             (λ b w. let l = early.1 w in omega (arith, tests))
             (λ b. early.0 (omega (arith, tests)))
-            (λ b. inr (λ w. absurd (omega arith), no-tick 9 (omega arith))),
+            (λ b. inr (λ w. absurd (omega arith), no_tick 9 (omega arith))),
       ))
 
   -- a tick: 7, 13, 12 and 11
-  tick : FirstOf (from-7 t s 12 amount) (guard t s (Means (Tick amount)))
+  tick : FirstOf (from_7 t s 12 amount) (guard t s (Means (Tick amount)))
   tick =
       let now = s.clock + amount in
-      several (listed s) (in_tick_time t s now) 7 (Misplaced s 12) (from-8 t s 12 amount) tt
+      several (listed s) (in_tick_time t s now) 7 (Misplaced s 12) (from_8 t s 12 amount) tt
       (λ h m. m (omega (arith, tests), tt))
       (λ n p. n (let l = p.0 in omega (arith, tests)))
       (λ h.
       inr (
-        no-request 12 (omega arith),
+        no_request 12 (omega arith),
         inr (
           never-early 12 (omega arith),
           inr (
             λ w. absurd (omega arith),
-            first_of (in_tick_time t s now) (from-13 t s 12 amount) (
+            first_of (in_tick_time t s now) (from_13 t s 12 amount) (
               (λ b. (refl, omega (arith, tests)), (λ b w. let l = w.1 in omega (arith, tests), refl)),
               (
                 (
@@ -230,8 +230,8 @@ module _ (t : Table) (s : State) (amount : ℕ) where
                   (
                     λ b w.
                         ⊎_elim
-                        (λ q. let l = in-channel-time t s now b w.1 q.0 in let m = q.1 in omega arith)
-                        (λ q. let l = in-device-time t s now b w.1 q.0 in let m = q.1 in omega arith)
+                        (λ q. let l = in_channel_time t s now b w.1 q.0 in let m = q.1 in omega arith)
+                        (λ q. let l = in_device_time t s now b w.1 q.0 in let m = q.1 in omega arith)
                         w.2,
                     refl,
                   ),
@@ -239,7 +239,7 @@ module _ (t : Table) (s : State) (amount : ℕ) where
                 (
                   (
                     λ b. let w = past-phase t s now b in (refl, w.0, w.1),
-                    (λ b w. let l = in-phase-time t s now b w.1 in let m = w.2 in omega arith, refl),
+                    (λ b w. let l = in_phase_time t s now b w.1 in let m = w.2 in omega arith, refl),
                   ),
                   tt,
                 ),
@@ -251,48 +251,48 @@ module _ (t : Table) (s : State) (amount : ℕ) where
 
 -- ---- by step
 module _ (s : State) where
-  not-neutral : ((s.phase ≡ 0) × ¬ (s.gear_box ≡ 0)) ↔ WrongSide s 1
-  not-neutral = (
+  not_neutral : ((s.phase ≡ 0) × ¬ (s.gear_box ≡ 0)) ↔ WrongSide s 1
+  not_neutral = (
     λ p. (p.0, inl (refl, p.1)),
     λ w. (w.0, ⊎_elim (λ e. e.1) (λ e. absurd (let l = each (λ k. 2 ≤ k) (2 ∷ 3 ∷ []) (omega arith) 1 e.0 in omega arith)) w.1),
   )
 
-  not-in-gear : (code : ℕ) → OneOf (2 ∷ 3 ∷ []) code → ((s.phase ≡ 0) × ¬ (s.gear_box ≡ 1)) ↔ WrongSide s code
-  not-in-gear code o =
+  not_in_gear : (code : ℕ) → OneOf (2 ∷ 3 ∷ []) code → ((s.phase ≡ 0) × ¬ (s.gear_box ≡ 1)) ↔ WrongSide s code
+  not_in_gear code o =
       let l = each (λ k. 2 ≤ k) (2 ∷ 3 ∷ []) (omega arith) code o in
       (λ p. (p.0, inr (o, p.1)), λ w. (w.0, ⊎_elim (λ e. absurd (let q = e.0 in omega arith)) (λ e. e.1) w.1))
 
-on-state : (t : Table) (s : State) (x : Step) → FirstOf (from-7 t s (code_of x) (amount_of x)) (guard t s (Means x))
-on-state t s FromNeutral = request t s 0 1 0 (omega arith) (λ p. p, λ p. p) (not-neutral s)
-on-state t s GearToGear = request t s 0 2 1 (omega arith) (λ p. p, λ p. p) (not-in-gear s 2 (inl refl))
-on-state t s ToNeutral = request t s 0 3 1 (omega arith) (λ p. p, λ p. p) (not-in-gear s 3 (inr (inl refl)))
-on-state t s Deliver = placed t s 0 4 Deliver tt (λ p. p, λ p. p) (omega arith)
-on-state t s DeviceGood = good t s 0
-on-state t s DeviceFailed = failed t s 0
-on-state t s EngineWaits = placed t s 0 7 EngineWaits tt (λ p. p, λ p. p) (omega arith)
-on-state t s Take = take t s 0
-on-state t s AskClutch = ask t s 0
-on-state t s RaiseError = placed t s 0 10 RaiseError tt (λ p. p, λ p. p) (omega arith)
-on-state t s Finish = placed t s 0 11 Finish tt (λ p. p, λ p. p) (omega arith)
-on-state t s (Tick n) = tick t s n
-on-state t s Reset = placed t s 0 13 Reset tt (λ p. p, λ p. p) (omega arith)
+on_state : (t : Table) (s : State) (x : Step) → FirstOf (from_7 t s (code_of x) (amount_of x)) (guard t s (Means x))
+on_state t s FromNeutral = request t s 0 1 0 (omega arith) (λ p. p, λ p. p) (not_neutral s)
+on_state t s GearToGear = request t s 0 2 1 (omega arith) (λ p. p, λ p. p) (not_in_gear s 2 (inl refl))
+on_state t s ToNeutral = request t s 0 3 1 (omega arith) (λ p. p, λ p. p) (not_in_gear s 3 (inr (inl refl)))
+on_state t s Deliver = placed t s 0 4 Deliver tt (λ p. p, λ p. p) (omega arith)
+on_state t s DeviceGood = good t s 0
+on_state t s DeviceFailed = failed t s 0
+on_state t s EngineWaits = placed t s 0 7 EngineWaits tt (λ p. p, λ p. p) (omega arith)
+on_state t s Take = take t s 0
+on_state t s AskClutch = ask t s 0
+on_state t s RaiseError = placed t s 0 10 RaiseError tt (λ p. p, λ p. p) (omega arith)
+on_state t s Finish = placed t s 0 11 Finish tt (λ p. p, λ p. p) (omega arith)
+on_state t s (Tick n) = tick t s n
+on_state t s Reset = placed t s 0 13 Reset tt (λ p. p, λ p. p) (omega arith)
 
 -- ---- by what was read
 module _ (t : Table) (s : State) (code middle amount : ℕ) where
-  of-reading : (r : Reading) → Reads code middle amount r → FirstOf (record_refusals t s code middle amount) (guard t s r)
-  of-reading (Means x) h =
+  of_reading : (r : Reading) → Reads code middle amount r → FirstOf (record_refusals t s code middle amount) (guard t s r)
+  of_reading (Means x) h =
       inr (
         h.0,
         inr (
           λ n. n h.1,
-          subst (λ (c : ℕ). FirstOf (from-7 t s c amount) (guard t s (Means x))) h.2
-              (subst (λ (n : ℕ). FirstOf (from-7 t s (code_of x) n) (guard t s (Means x))) h.3 (on-state t s x)),
+          subst (λ (c : ℕ). FirstOf (from_7 t s c amount) (guard t s (Means x))) h.2
+              (subst (λ (n : ℕ). FirstOf (from_7 t s (code_of x) n) (guard t s (Means x))) h.3 (on_state t s x)),
         ),
       )
-  of-reading WrongCode h = inl (h, refl)
-  of-reading WrongAmount h = inr (h.0, inl (h.1, refl))
+  of_reading WrongCode h = inl (h, refl)
+  of_reading WrongAmount h = inr (h.0, inl (h.1, refl))
 
 -- the number of a record, under a table that has been tested
 pub first-refusal :
     (t : Table) (s : State) (code middle amount : ℕ) → FirstOf (record_refusals t s code middle amount) (guard t s (reading code middle amount))
-first-refusal t s code middle amount = of-reading t s code middle amount (reading code middle amount) (reads middle amount code)
+first-refusal t s code middle amount = of_reading t s code middle amount (reading code middle amount) (reads middle amount code)

@@ -18,24 +18,24 @@ use Rattle.shift.specs.Answers.{checks, guard, led, excess, answer, judged}
 use Rattle.shift.specs.Runs.{Outcome, after, run}
 
 -- no check has the number 0
-numbered-from-5 : (t : Table) (s : State) (x : Step) → T (absent 0 (checks t s (Means x)))
-numbered-from-5 t s FromNeutral = tt
-numbered-from-5 t s GearToGear = tt
-numbered-from-5 t s ToNeutral = tt
-numbered-from-5 t s Deliver = tt
-numbered-from-5 t s DeviceGood = tt
-numbered-from-5 t s DeviceFailed = tt
-numbered-from-5 t s EngineWaits = tt
-numbered-from-5 t s Take = tt
-numbered-from-5 t s AskClutch = tt
-numbered-from-5 t s RaiseError = tt
-numbered-from-5 t s Finish = tt
-numbered-from-5 t s (Tick n) = tt
-numbered-from-5 t s Reset = tt
+numbered_from_5 : (t : Table) (s : State) (x : Step) → T (absent 0 (checks t s (Means x)))
+numbered_from_5 t s FromNeutral = tt
+numbered_from_5 t s GearToGear = tt
+numbered_from_5 t s ToNeutral = tt
+numbered_from_5 t s Deliver = tt
+numbered_from_5 t s DeviceGood = tt
+numbered_from_5 t s DeviceFailed = tt
+numbered_from_5 t s EngineWaits = tt
+numbered_from_5 t s Take = tt
+numbered_from_5 t s AskClutch = tt
+numbered_from_5 t s RaiseError = tt
+numbered_from_5 t s Finish = tt
+numbered_from_5 t s (Tick n) = tt
+numbered_from_5 t s Reset = tt
 
 -- of an accepted step all checks hold
 pub checked : (t : Table) (s : State) (x : Step) → guard t s (Means x) ≡ 0 → Holds (checks t s (Means x))
-checked t s x e = (first→holds 0 (checks t s (Means x)) (numbered-from-5 t s x) e).0
+checked t s x e = (first→holds 0 (checks t s (Means x)) (numbered_from_5 t s x) e).0
 
 -- what every accepted step is shown to have, every accepted reading has
 pub each_step :
@@ -78,9 +78,9 @@ pieces t s (x ∷ xs) ys = go (guard t s x) (excess t s x (guard t s x)) (pieces
         rw e (resumes over s a.number a (run t a.state ys))
     go (suc k) over e = refl
 
-both-accepted : (k : ℕ) (a b : Outcome) → a.number ≡ k → (resumed k a b).number ≡ 0 → (a.number ≡ 0) × (b.number ≡ 0)
-both-accepted zero a b e h = (e, h)
-both-accepted (suc k) a b e h = absurd (omega arith)
+both_accepted : (k : ℕ) (a b : Outcome) → a.number ≡ k → (resumed k a b).number ≡ 0 → (a.number ≡ 0) × (b.number ≡ 0)
+both_accepted zero a b e h = (e, h)
+both_accepted (suc k) a b e h = absurd (omega arith)
 
 -- a beginning of an accepted list is accepted, and so is the rest from where it ended
 pub beginning :
@@ -88,7 +88,7 @@ pub beginning :
     → ((run t s xs).number ≡ 0) × ((run t (run t s xs).state ys).number ≡ 0)
 beginning t s xs ys h =
     let a = run t s xs in
-    both-accepted a.number a (run t a.state ys) refl (rw (pieces t s xs ys) at h)
+    both_accepted a.number a (run t a.state ys) refl (rw (pieces t s xs ys) at h)
 
 -- ---- a run by what each step answers; `rest` is what follows from a state
 on :
@@ -114,5 +114,5 @@ module _ (t : Table) (s : State) (r : Reading) (rs : List Reading) (a : Answer) 
 abbrev pub counted : ℕ → Outcome → Outcome
 counted k o = record { count = k + o.count; number = o.number; excess = o.excess; state = o.state }
 
-pub counted-one : (k : ℕ) (s : State) (o : Outcome) → counted k (after 0 0 s o) ≡ counted (k + 1) o
-counted-one k s o = ap (λ n. record { count = n; number = o.number; excess = o.excess; state = o.state }) (omega arith)
+pub counted_one : (k : ℕ) (s : State) (o : Outcome) → counted k (after 0 0 s o) ≡ counted (k + 1) o
+counted_one k s o = ap (λ n. record { count = n; number = o.number; excess = o.excess; state = o.state }) (omega arith)

@@ -15,6 +15,6 @@ use Rattle.promises.specs.HowFar.{HowFar}
 -- accepted, it is the one that the step of this code and this amount makes of it
 pub record Answered (t : Table) (s : State) (code middle amount number excess : ℕ) (s' : State) : Type 0 where
   pub first : FirstOf (refusals t s code middle amount) number
-  pub how-far : HowFar t s code amount number excess
+  pub how_far : HowFar t s code amount number excess
   pub refused : ¬ (number ≡ 0) → s' ≡ s
   pub accepted : number ≡ 0 → (x : Step) × (code_of x ≡ code) × (amount_of x ≡ amount) × Effect s x s'

@@ -32,10 +32,10 @@ pub record Agree (old new : Outcome) : Type 0 where
   pub number : old.number ≡ new.number
   pub clock : old.state.clock ≡ new.state.clock
   pub phase : old.state.phase ≡ new.state.phase
-  pub phase-time : old.state.phase_time ≡ new.state.phase_time
+  pub phase_time : old.state.phase_time ≡ new.state.phase_time
   pub stage : old.state.stage ≡ new.state.stage
-  pub stage-time : old.state.stage_time ≡ new.state.stage_time
-  pub request-time : old.state.request_time ≡ new.state.request_time
+  pub stage_time : old.state.stage_time ≡ new.state.stage_time
+  pub request_time : old.state.request_time ≡ new.state.request_time
   pub failed-phase : old.state.failed_phase ≡ new.state.failed_phase
   pub at_rest : new.state.phase ≡ 0 → old.state ≡ new.state
-  pub in-22 : new.state.phase ≡ 22 → old.state ≡ new.state
+  pub in_22 : new.state.phase ≡ 22 → old.state ≡ new.state

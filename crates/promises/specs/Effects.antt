@@ -15,8 +15,8 @@ use Rattle.promises.specs.Allowed.{Shifting}
 -- what entering the phase of s' from s does; what the box is, and request time in a phase other than 0, the step says
 pub record Entered (s s' : State) : Type 0 where
   -- both times are the clock; the stage is sent in phases 1 to 21, none in 0, 22 and 23
-  pub phase-time : s'.phase_time ≡ s.clock
-  pub stage-time : s'.stage_time ≡ s.clock
+  pub phase_time : s'.phase_time ≡ s.clock
+  pub stage_time : s'.stage_time ≡ s.clock
   pub sent : Shifting s' → s'.stage ≡ 1
   pub none : OneOf (0 ∷ 22 ∷ 23 ∷ []) s'.phase → s'.stage ≡ 0
   -- 0 sets request time to 0
@@ -28,7 +28,7 @@ pub record Entered (s s' : State) : Type 0 where
 
 -- taking a set order makes the box in gear, taking a release order makes it neutral, taking another keeps it
 pub record BoxTaken (s s' : State) : Type 0 where
-  pub in-gear : OneOf set_phases s.phase → s'.gear_box ≡ 1
+  pub in_gear : OneOf set_phases s.phase → s'.gear_box ≡ 1
   pub neutral : OneOf release_phases s.phase → s'.gear_box ≡ 0
   pub kept : ¬ OneOf set_phases s.phase → ¬ OneOf release_phases s.phase → s'.gear_box ≡ s.gear_box
 
@@ -40,7 +40,7 @@ BoxKept s s' = s'.gear_box ≡ s.gear_box
 pub record Kept (s s' : State) : Type 0 where
   pub box : BoxKept s s'
   pub phase : s'.phase ≡ s.phase
-  pub phase-time : s'.phase_time ≡ s.phase_time
+  pub phase_time : s'.phase_time ≡ s.phase_time
   pub request : s'.request_time ≡ s.request_time
   pub failed : s'.failed_phase ≡ s.failed_phase
 

@@ -47,20 +47,20 @@ no_step own t s WrongAmount o = refl
 abbrev others : List ℕ
 others = 0 ∷ 1 ∷ 2 ∷ 3 ∷ 4 ∷ 5 ∷ 6 ∷ 7 ∷ 8 ∷ 9 ∷ 10 ∷ 12 ∷ []
 
-pub no-tick : (s : State) (x : Step) → OneOf others (tag_of step-type x) → s.clock ≡ (effect s x).clock
-no-tick s FromNeutral o = refl
-no-tick s GearToGear o = refl
-no-tick s ToNeutral o = refl
-no-tick s Deliver o = refl
-no-tick s DeviceGood o = refl
-no-tick s DeviceFailed o = refl
-no-tick s EngineWaits o = refl
-no-tick s Take o = refl
-no-tick s AskClutch o = refl
-no-tick s RaiseError o = refl
-no-tick s Finish o = refl
-no-tick s (Tick n) o = absurd (miss others 11 tt o)
-no-tick s Reset o = refl
+pub no_tick : (s : State) (x : Step) → OneOf others (tag_of step-type x) → s.clock ≡ (effect s x).clock
+no_tick s FromNeutral o = refl
+no_tick s GearToGear o = refl
+no_tick s ToNeutral o = refl
+no_tick s Deliver o = refl
+no_tick s DeviceGood o = refl
+no_tick s DeviceFailed o = refl
+no_tick s EngineWaits o = refl
+no_tick s Take o = refl
+no_tick s AskClutch o = refl
+no_tick s RaiseError o = refl
+no_tick s Finish o = refl
+no_tick s (Tick n) o = absurd (miss others 11 tt o)
+no_tick s Reset o = refl
 
 -- of the steps that are neither device good, device failed nor ask clutch none is too early
 abbrev never : List ℕ
@@ -81,19 +81,19 @@ never-early t s Finish o = refl
 never-early t s (Tick n) o = refl
 never-early t s Reset o = refl
 
-pub in-clock :
+pub in_clock :
     (t : Table) (s : State) (x : Step) → first (allowed t s x) ≡ 0 → s.clock ≤ 4294967295
     → (effect s x).clock ≤ 4294967295
-in-clock t s FromNeutral e h = h
-in-clock t s GearToGear e h = h
-in-clock t s ToNeutral e h = h
-in-clock t s Deliver e h = h
-in-clock t s DeviceGood e h = h
-in-clock t s DeviceFailed e h = h
-in-clock t s EngineWaits e h = h
-in-clock t s Take e h = h
-in-clock t s AskClutch e h = h
-in-clock t s RaiseError e h = h
-in-clock t s Finish e h = h
-in-clock t s (Tick n) e h = let a = first→holds 0 (allowed t s (Tick n)) tt e in omega (arith, tests)
-in-clock t s Reset e h = h
+in_clock t s FromNeutral e h = h
+in_clock t s GearToGear e h = h
+in_clock t s ToNeutral e h = h
+in_clock t s Deliver e h = h
+in_clock t s DeviceGood e h = h
+in_clock t s DeviceFailed e h = h
+in_clock t s EngineWaits e h = h
+in_clock t s Take e h = h
+in_clock t s AskClutch e h = h
+in_clock t s RaiseError e h = h
+in_clock t s Finish e h = h
+in_clock t s (Tick n) e h = let a = first→holds 0 (allowed t s (Tick n)) tt e in omega (arith, tests)
+in_clock t s Reset e h = h

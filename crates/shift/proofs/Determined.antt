@@ -2,39 +2,39 @@
 -- Assumes nothing.
 use mathlib.Core.Path.{sym, ◌∙◌}
 use Rattle.checks.specs.Determined.{Determined}
-use Rattle.shift.proofs.Reading.refusal.Reads as refusal-reads
-use Rattle.shift.proofs.State.start.Reads as start-reads
-use Rattle.shift.proofs.State.step.Reads as step-reads
-use Rattle.shift.proofs.State.unlisted.Reads as unlisted-reads
-use Rattle.shift.proofs.State.judged_listed.Reads as judged-listed-reads
-use Rattle.shift.proofs.State.judged_step.Reads as judged-step-reads
-use Rattle.shift.proofs.Step.of.Reads as of-reads
-use Rattle.shift.proofs.Step.of_head.Reads as of-head-reads
-use Rattle.shift.proofs.refusal_of.Reads as refusal-of-reads
+use Rattle.shift.proofs.Reading.refusal.Reads as refusal_reads
+use Rattle.shift.proofs.State.start.Reads as start_reads
+use Rattle.shift.proofs.State.step.Reads as step_reads
+use Rattle.shift.proofs.State.unlisted.Reads as unlisted_reads
+use Rattle.shift.proofs.State.judged_listed.Reads as judged_listed_reads
+use Rattle.shift.proofs.State.judged_step.Reads as judged_step_reads
+use Rattle.shift.proofs.Step.of.Reads as of_reads
+use Rattle.shift.proofs.Step.of_head.Reads as of_head_reads
+use Rattle.shift.proofs.refusal_of.Reads as refusal_of_reads
 
-pub start : Determined start-reads.Post
+pub start : Determined start_reads.Post
 start κs a x y at at' p q = p ∙ sym q
 
-pub step : Determined step-reads.Post
+pub step : Determined step_reads.Post
 step κs a x y at at' p q = p ∙ sym q
 
-pub unlisted : Determined unlisted-reads.Post
+pub unlisted : Determined unlisted_reads.Post
 unlisted κs a x y at at' p q = p ∙ sym q
 
-pub judged-listed : Determined judged-listed-reads.Post
+pub judged-listed : Determined judged_listed_reads.Post
 judged-listed κs a x y at at' p q = p ∙ sym q
 
-pub of : Determined of-reads.Post
+pub of : Determined of_reads.Post
 of κs a x y at at' p q = p ∙ sym q
 
-pub refusal : Determined refusal-reads.Post
+pub refusal : Determined refusal_reads.Post
 refusal κs a x y at at' p q = p ∙ sym q
 
-pub refusal-of : Determined refusal-of-reads.Post
-refusal-of κs a x y at at' p q = p ∙ sym q
+pub refusal_of : Determined refusal_of_reads.Post
+refusal_of κs a x y at at' p q = p ∙ sym q
 
-pub of-head : Determined of-head-reads.Post
-of-head κs a x y at at' p q = p ∙ sym q
+pub of_head : Determined of_head_reads.Post
+of_head κs a x y at at' p q = p ∙ sym q
 
-pub judged-step : Determined judged-step-reads.Post
+pub judged-step : Determined judged_step_reads.Post
 judged-step κs a x y at at' p q = p ∙ sym q

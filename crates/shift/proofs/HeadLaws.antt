@@ -42,8 +42,8 @@ module _ (code : ℕ) where
         h
     as_read WrongAmount h n = let k = a-code h.0 in rw (le-leb 1 code k.0, le-leb code 13 k.1)
 
-    pub no-step-read : (¬ NoCode code → Formed code middle amount → ⊥) → wrong_by code ≡ reading code middle amount
-    no-step-read = as_read (reading code middle amount) (reads middle amount code)
+    pub no_step_read : (¬ NoCode code → Formed code middle amount → ⊥) → wrong_by code ≡ reading code middle amount
+    no_step_read = as_read (reading code middle amount) (reads middle amount code)
 
 -- the only number from 1 to 13 that is left by all arms but the tick's
 abbrev arms : List ℕ
@@ -60,16 +60,16 @@ left_over h r l m =
 -- ---- of a number
 module _ (head amount : ℕ) where
   -- with an amount it is a tick, or no step
-  pub no-tick : ¬ (head ≡ 12) → ¬ (amount ≡ 0) → wrong_by (head % 256) ≡ reading (head % 256) (head / 256) amount
-  no-tick n some =
-      no-step-read (head % 256) (head / 256) amount (λ k f. some (f.plain (λ e. let m = f.middle-byte in n (omega arith))))
+  pub no_tick : ¬ (head ≡ 12) → ¬ (amount ≡ 0) → wrong_by (head % 256) ≡ reading (head % 256) (head / 256) amount
+  no_tick n some =
+      no_step_read (head % 256) (head / 256) amount (λ k f. some (f.plain (λ e. let m = f.middle_byte in n (omega arith))))
 
   -- without one it is one of the arms, or no step
   pub no_arm : amount ≡ 0 → NoneOf arms head → wrong_by (head % 256) ≡ reading (head % 256) (head / 256) amount
   no_arm none r =
-      no-step-read (head % 256) (head / 256) amount
+      no_step_read (head % 256) (head / 256) amount
       (λ k f.
-      let m = f.middle-byte in
+      let m = f.middle_byte in
       let c = a-code (head % 256) k in
       let twelve = left_over head r (omega arith) (omega arith) in
       let some = (f.tick (omega arith)).0 in

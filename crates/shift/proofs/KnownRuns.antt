@@ -125,17 +125,17 @@ answered number excess s = record { number = number; rule = 0; excess = excess; 
 -- K1 to K11 end so; K12: rule 14 is broken at 1,404 and none at 1,405; K13: a take is accepted at 150 and leads to phase 3, and is
 -- refused with 10 at 151, which is 1 over
 pub record KnownRuns : Type 0 where
-  pub k1-k11 : map (λ k. run old_default start k.steps) runs ≡ map (λ k. k.ends) runs
+  pub k1_k11 : map (λ k. run old_default start k.steps) runs ≡ map (λ k. k.ends) runs
   pub k12 : map (λ n. broken_rule (changing n)) (1404 ∷ 1405 ∷ []) ≡ 14 ∷ 0 ∷ []
   pub k13 :
       map (λ n. step_on old_default (good_at n) 8 0) (150 ∷ 151 ∷ [])
       ≡ answered 0 0 (state 150 neutral 3 150 sent 150 0 0) ∷ answered 10 1 (good_at 151) ∷ []
 
 pub known-runs : KnownRuns
-known-runs = record { k1-k11 = refl; k12 = refl; k13 = refl }
+known-runs = record { k1_k11 = refl; k12 = refl; k13 = refl }
 
-pub the-customer's-case : map (λ k. run old_default start k.steps) cases ≡ map (λ k. k.ends) cases
-the-customer's-case = refl
+pub the_customer's_case : map (λ k. run old_default start k.steps) cases ≡ map (λ k. k.ends) cases
+the_customer's_case = refl
 
 -- ---- how far over: a tick past both limits is measured against the channel's, 155 past it and 5 past the phase's; one that the clock
 -- has no room for against the largest clock; an ask clutch with the phase's time at the largest clock passes 32 bits
@@ -143,12 +143,12 @@ abbrev waiting_from : ℕ → State
 waiting_from time = state 0 neutral 1 time waiting 0 0 0
 
 pub record HowFarOver : Type 0 where
-  pub past-both : run old_default start (step 1 ∷ t 160 ∷ []) ≡ (over (step 1 ∷ t 160 ∷ []) 1 12 155 (state 0 neutral 1 0 sent 0 0 0)).ends
-  pub past-the-clock : step_on old_default (state 4294967290 neutral 0 0 none 0 0 0) 12 12 ≡ answered 13 7 (state 4294967290 neutral 0 0 none 0 0 0)
-  pub past-32-bits : step_on old_default (waiting_from 4294967295) 9 0 ≡ answered 9 4294967446 (waiting_from 4294967295)
+  pub past_both : run old_default start (step 1 ∷ t 160 ∷ []) ≡ (over (step 1 ∷ t 160 ∷ []) 1 12 155 (state 0 neutral 1 0 sent 0 0 0)).ends
+  pub past_the_clock : step_on old_default (state 4294967290 neutral 0 0 none 0 0 0) 12 12 ≡ answered 13 7 (state 4294967290 neutral 0 0 none 0 0 0)
+  pub past_32_bits : step_on old_default (waiting_from 4294967295) 9 0 ≡ answered 9 4294967446 (waiting_from 4294967295)
 
-pub how-far-over : HowFarOver
-how-far-over = record { past-both = refl; past-the-clock = refl; past-32-bits = refl }
+pub how_far_over : HowFarOver
+how_far_over = record { past_both = refl; past_the_clock = refl; past_32_bits = refl }
 
 -- ---- the house values, 20, 60, 20, 60: a device good and a device failed one below their delay and at it, in an open and in a close
 -- phase. The clutch was asked for at 151 and delivered 3 later, so that the delay does not run from the phase's time; in the wrong stage
@@ -209,5 +209,5 @@ pub record KnownDefaults : Type 0 where
   pub old : map (λ n. run old_default start (messages n)) (5 ∷ 10 ∷ 11 ∷ []) ≡ shifted 415 ∷ too_late 5 ∷ too_late 6 ∷ []
   pub new : map (λ n. run new_default start (messages n)) (5 ∷ 10 ∷ 11 ∷ []) ≡ shifted 415 ∷ shifted 430 ∷ too_late 1 ∷ []
 
-pub known-defaults : KnownDefaults
-known-defaults = record { old = refl; new = refl }
+pub known_defaults : KnownDefaults
+known_defaults = record { old = refl; new = refl }

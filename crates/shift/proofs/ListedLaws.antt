@@ -6,10 +6,10 @@ use Prim.Native.Nat.{ℕ, zero, suc, ◌≤◌}
 use native.Mathlib.Omega.{arith}
 use lib.Dec.{T, leb, eqb, leb→le, le→leb}
 use Rattle.checks.specs.Checks.{first}
-use Rattle.checks.proofs.Checks.{Holds, first-left, first-right}
+use Rattle.checks.proofs.Checks.{Holds, first-left, first_right}
 use Rattle.limits.specs.declared.Table.{Table}
 use Rattle.phases.specs.Phases.{set, release, order_of, unfinished}
-use Rattle.phases.proofs.PhaseLaws.{next-listed, clutch-listed}
+use Rattle.phases.proofs.PhaseLaws.{next-listed, clutch_listed}
 use Rattle.shift.specs.declared.State.{State}
 use Rattle.shift.specs.declared.Step.{Step}
 use Rattle.shift.specs.declared.Step.TheVariants.{FromNeutral, GearToGear, ToNeutral, Deliver, DeviceGood, DeviceFailed, EngineWaits, Take, AskClutch, RaiseError, Finish, Tick, Reset}
@@ -21,15 +21,15 @@ use Rattle.shift.specs.Steps.{allowed, requested, boxed, box_taken, effect}
 use Rattle.shift.specs.Answers.{refusal, listed, checks_of, guard, led, excess, answer, answer_to, judged}
 
 -- of a listed state nothing is checked but what its step asks
-pub left-to-check : (t : Table) (s : State) → Holds (listed s) → (r : Reading) → first (checks_of (allowed t s) r) ≡ guard t s r
-left-to-check t s h (Means x) = sym (first-right (listed s) (allowed t s x) h)
-left-to-check t s h WrongCode = refl
-left-to-check t s h WrongAmount = refl
+pub left_to_check : (t : Table) (s : State) → Holds (listed s) → (r : Reading) → first (checks_of (allowed t s) r) ≡ guard t s r
+left_to_check t s h (Means x) = sym (first_right (listed s) (allowed t s x) h)
+left_to_check t s h WrongCode = refl
+left_to_check t s h WrongAmount = refl
 
-pub judged-as-listed :
+pub judged_as_listed :
     (t : Table) (s : State) (r : Reading) → Holds (listed s)
     → answer_to t s r (first (checks_of (allowed t s) r)) ≡ judged t s r
-judged-as-listed t s r h = ap (answer_to t s r) (left-to-check t s h r)
+judged_as_listed t s r h = ap (answer_to t s r) (left_to_check t s h r)
 
 -- of another what is no step is refused by its own number, and a step by the state's
 pub kept_out : (t : Table) (s : State) (r : Reading) → ¬ (first (listed s) ≡ 0) → guard t s r ≡ cond (eqb (refusal r) 0) (first (listed s)) (refusal r)
@@ -61,24 +61,24 @@ leads s DeviceGood h = (h.0, (tt, h.1.1))
 leads s DeviceFailed h = (h.0, (tt, h.1.1))
 leads s EngineWaits h = (h.0, (tt, h.1.1))
 leads s Take h = enters _ (boxed (box_taken s) s) (next-listed s.phase (omega (arith, leb→le s.phase 23 h.0))) (takes s h)
-leads s AskClutch h = enters _ s (clutch-listed s.phase (omega (arith, leb→le s.phase 23 h.0))) h
+leads s AskClutch h = enters _ s (clutch_listed s.phase (omega (arith, leb→le s.phase 23 h.0))) h
 leads s RaiseError h = enters 23 s (omega arith) h
 leads s Finish h = enters 0 s (omega arith) h
 leads s (Tick n) h = h
 leads s Reset h = enters 0 s (omega arith) h
 
-pub stays-listed : (s : State) (r : Reading) → Holds (listed s) → Holds (listed (led s r))
-stays-listed s (Means x) h = leads s x h
-stays-listed s WrongCode h = h
-stays-listed s WrongAmount h = h
+pub stays_listed : (s : State) (r : Reading) → Holds (listed s) → Holds (listed (led s r))
+stays_listed s (Means x) h = leads s x h
+stays_listed s WrongCode h = h
+stays_listed s WrongAmount h = h
 
 -- so an accepted step leads from a listed state to a listed one
-pub led-to : (k over : ℕ) (next s : State) → (answer k over next s).number ≡ 0 → (answer k over next s).state ≡ next
-led-to zero over next s z = refl
-led-to (suc k) over next s z = absurd (omega arith)
+pub led_to : (k over : ℕ) (next s : State) → (answer k over next s).number ≡ 0 → (answer k over next s).state ≡ next
+led_to zero over next s z = refl
+led_to (suc k) over next s z = absurd (omega arith)
 
-pub accepted-listed :
+pub accepted_listed :
     (t : Table) (s : State) (r : Reading) (a : Answer) → a ≡ judged t s r → a.number ≡ 0 → Holds (listed s) → Holds (listed a.state)
-accepted-listed t s r a e z h =
-    let there = led-to (guard t s r) (excess t s r (guard t s r)) (led s r) s (sym (ap (λ (q : Answer). q.number) e) ∙ z) in
-    subst (λ (q : State). Holds (listed q)) (sym (ap (λ (q : Answer). q.state) e ∙ there)) (stays-listed s r h)
+accepted_listed t s r a e z h =
+    let there = led_to (guard t s r) (excess t s r (guard t s r)) (led s r) s (sym (ap (λ (q : Answer). q.number) e) ∙ z) in
+    subst (λ (q : State). Holds (listed q)) (sym (ap (λ (q : Answer). q.state) e ∙ there)) (stays_listed s r h)

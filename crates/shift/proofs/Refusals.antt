@@ -18,8 +18,8 @@ use Rattle.shift.specs.declared.Reading.TheVariants.{Means, WrongCode, WrongAmou
 use Rattle.shift.specs.Refusals.{code_of, amount_of, NoCode, Formed, Reads, refusals}
 use Rattle.shift.specs.Answers.{plain, ticking, reading, refusal}
 use Rattle.shift.proofs.ReadingLaws.{past-codes}
-use Rattle.shift.proofs.Step.of.Reads as of-reads
-use Rattle.shift.proofs.refusal_of.Reads as refusal-of-reads
+use Rattle.shift.proofs.Step.of.Reads as of_reads
+use Rattle.shift.proofs.refusal_of.Reads as refusal_of_reads
 
 -- ---- what a code, a middle byte and an amount mean
 pub a-code : (code : ℕ) → 1 ≤ code → code ≤ 13 → ¬ NoCode code
@@ -43,33 +43,33 @@ module _ (middle amount : ℕ) where
       let a = eqb amount 0 in
       of_test (m && a) (code_of x) x (a-code (code_of x) o.0 o.1)
       (λ h. record {
-        middle-byte = eqb→eq middle 0 (left m a h);
+        middle_byte = eqb→eq middle 0 (left m a h);
         plain = λ _. eqb→eq amount 0 (right m a h);
         tick = λ e. absurd (o.2 e);
       })
-      (λ f. both m a (eq→eqb middle 0 f.middle-byte) (eq→eqb amount 0 (f.plain o.2)))
+      (λ f. both m a (eq→eqb middle 0 f.middle_byte) (eq→eqb amount 0 (f.plain o.2)))
       refl
       (λ h. o.3 ∙ sym (eqb→eq amount 0 (right m a h)))
 
-  of-tick : Reads 12 middle amount (ticking middle amount)
-  of-tick =
+  of_tick : Reads 12 middle amount (ticking middle amount)
+  of_tick =
       let m = eqb middle 0 in
       let low = leb 1 amount in
       let high = leb amount 65535 in
       of_test (m && (low && high)) 12 (Tick amount) (a-code 12 (omega arith) (omega arith))
       (λ h. record {
-        middle-byte = eqb→eq middle 0 (left m (low && high) h);
+        middle_byte = eqb→eq middle 0 (left m (low && high) h);
         plain = λ n. absurd (n refl);
         tick = λ _. let r = right m (low && high) h in (leb→le 1 amount (left low high r), leb→le amount 65535 (right low high r));
       })
-      (λ f. let r = f.tick refl in both m (low && high) (eq→eqb middle 0 f.middle-byte) (both low high (le→leb 1 amount r.0) (le→leb amount 65535 r.1)))
+      (λ f. let r = f.tick refl in both m (low && high) (eq→eqb middle 0 f.middle_byte) (both low high (le→leb 1 amount r.0) (le→leb amount 65535 r.1)))
       refl
       (λ h. refl)
 
   by_code : (code : ℕ) → code < 14 → Reads code middle amount (reading code middle amount)
   by_code =
       below (λ code. Reads code middle amount (reading code middle amount)) 14
-      ((((((((((((((tt, inl refl), of_plain FromNeutral (omega arith)), of_plain GearToGear (omega arith)), of_plain ToNeutral (omega arith)), of_plain Deliver (omega arith)), of_plain DeviceGood (omega arith)), of_plain DeviceFailed (omega arith)), of_plain EngineWaits (omega arith)), of_plain Take (omega arith)), of_plain AskClutch (omega arith)), of_plain RaiseError (omega arith)), of_plain Finish (omega arith)), of-tick), of_plain Reset (omega arith))
+      ((((((((((((((tt, inl refl), of_plain FromNeutral (omega arith)), of_plain GearToGear (omega arith)), of_plain ToNeutral (omega arith)), of_plain Deliver (omega arith)), of_plain DeviceGood (omega arith)), of_plain DeviceFailed (omega arith)), of_plain EngineWaits (omega arith)), of_plain Take (omega arith)), of_plain AskClutch (omega arith)), of_plain RaiseError (omega arith)), of_plain Finish (omega arith)), of_tick), of_plain Reset (omega arith))
 
   pub reads : (code : ℕ) → Reads code middle amount (reading code middle amount)
   reads code =
@@ -79,20 +79,20 @@ module _ (middle amount : ℕ) where
       ]
 
 -- ---- the number of what is no step
-refused-so :
+refused_so :
     (code middle amount : ℕ) (r : Reading) → Reads code middle amount r → FirstOf (refusals code middle amount) (refusal r)
-refused-so code middle amount (Means x) h = inr (h.0, inr (λ n. n h.1, refl))
-refused-so code middle amount WrongCode h = inl (h, refl)
-refused-so code middle amount WrongAmount h = inr (h.0, inl (h.1, refl))
+refused_so code middle amount (Means x) h = inr (h.0, inr (λ n. n h.1, refl))
+refused_so code middle amount WrongCode h = inl (h, refl)
+refused_so code middle amount WrongAmount h = inr (h.0, inl (h.1, refl))
 
 pub in_order : (code middle amount : ℕ) → FirstOf (refusals code middle amount) (refusal (reading code middle amount))
-in_order code middle amount = refused-so code middle amount (reading code middle amount) (reads middle amount code)
+in_order code middle amount = refused_so code middle amount (reading code middle amount) (reads middle amount code)
 
 -- ---- of the contracts
 pub of :
-    (κs : _) (a : _) (r : _) (at : _) → of-reads.Post κs a r at → Reads a.0 a.1.0 a.1.1.0 r
+    (κs : _) (a : _) (r : _) (at : _) → of_reads.Post κs a r at → Reads a.0 a.1.0 a.1.1.0 r
 of κs a r at p = rw p (reads a.1.0 a.1.1.0 a.0)
 
-pub refusal-of :
-    (κs : _) (a : _) (r : _) (at : _) → refusal-of-reads.Post κs a r at → FirstOf (refusals a.0 a.1.0 a.1.1.0) r
-refusal-of κs a r at p = rw p (in_order a.0 a.1.0 a.1.1.0)
+pub refusal_of :
+    (κs : _) (a : _) (r : _) (at : _) → refusal_of_reads.Post κs a r at → FirstOf (refusals a.0 a.1.0 a.1.1.0) r
+refusal_of κs a r at p = rw p (in_order a.0 a.1.0 a.1.1.0)

@@ -12,9 +12,9 @@ use lib.ListN.{get_or, get_or-eq_default}
 use borrow.Author.Tests.{le-leb, lt-leb, le-ltb, eqb-false}
 use Rattle.checks.specs.Checks.{first}
 use Rattle.checks.proofs.Tests.{tests, passes, case, left, right, either}
-use Rattle.checks.proofs.Checks.{first→holds, one-check}
+use Rattle.checks.proofs.Checks.{first→holds, one_check}
 use Rattle.checks.proofs.Ranges.{from}
-use Rattle.phases.proofs.PhaseLaws.{ordered, unfinished-in}
+use Rattle.phases.proofs.PhaseLaws.{ordered, unfinished_in}
 use Rattle.phases.proofs.CaseLaws.{NoneOf, otherwise}
 use Rattle.limits.specs.declared.Table.{Table}
 use Rattle.shift.specs.declared.State.{State}
@@ -48,11 +48,11 @@ module _ (s : State) (x : ℕ) where
   pub limits : 1 ≤ s.phase → s.phase ≤ 21 → 1 ≤ s.stage → s.stage ≤ 3 → cond (limited s) x 0 ≡ x
   limits l m i j = rw (le-leb 1 s.phase l, le-leb s.phase 21 m, le-leb 1 s.stage i, le-leb s.stage 3 j)
 
-  pub resting-free : s.phase < 1 → cond (limited s) x 0 ≡ 0
-  resting-free l = rw (lt-leb 1 s.phase l)
+  pub resting_free : s.phase < 1 → cond (limited s) x 0 ≡ 0
+  resting_free l = rw (lt-leb 1 s.phase l)
 
-  pub ended-free : 21 < s.phase → cond (limited s) x 0 ≡ 0
-  ended-free m = rw (le-leb 1 s.phase (omega arith), lt-leb s.phase 21 m)
+  pub ended_free : 21 < s.phase → cond (limited s) x 0 ≡ 0
+  ended_free m = rw (le-leb 1 s.phase (omega arith), lt-leb s.phase 21 m)
 
   none_free : 1 ≤ s.phase → s.phase ≤ 21 → s.stage < 1 → cond (limited s) x 0 ≡ 0
   none_free l m i = rw (le-leb 1 s.phase l, le-leb s.phase 21 m, lt-leb 1 s.stage i)
@@ -61,17 +61,17 @@ module _ (s : State) (x : ℕ) where
   late_free l m j =
       rw (le-leb 1 s.phase l, le-leb s.phase 21 m, le-leb 1 s.stage (omega arith), lt-leb s.stage 3 j)
 
-  pub idle-free : 1 ≤ s.phase → s.phase ≤ 21 → ¬ (s.stage ≡ 1) × ¬ (s.stage ≡ 3) → ¬ (s.stage ≡ 2) → cond (limited s) x 0 ≡ 0
-  idle-free l m n o =
+  pub idle_free : 1 ≤ s.phase → s.phase ≤ 21 → ¬ (s.stage ≡ 1) × ¬ (s.stage ≡ 3) → ¬ (s.stage ≡ 2) → cond (limited s) x 0 ≡ 0
+  idle_free l m n o =
       elim (dec_lt s.stage 1) [
         | yes i ↦ none_free l m i
         | no i ↦ late_free l m (omega arith)
       ]
 
 -- where it applies
-pub limited-in : (s : State) → T (limited s) → (1 ≤ s.phase) × (s.phase ≤ 21) × (1 ≤ s.stage) × (s.stage ≤ 3)
-limited-in s h =
-    let p = unfinished-in s.phase (left (unfinished s.phase) (leb 1 s.stage && leb s.stage 3) h) in
+pub limited_in : (s : State) → T (limited s) → (1 ≤ s.phase) × (s.phase ≤ 21) × (1 ≤ s.stage) × (s.stage ≤ 3)
+limited_in s h =
+    let p = unfinished_in s.phase (left (unfinished s.phase) (leb 1 s.stage && leb s.stage 3) h) in
     let g = right (unfinished s.phase) (leb 1 s.stage && leb s.stage 3) h in (
       p.0,
       p.1,
@@ -80,73 +80,73 @@ limited-in s h =
     )
 
 -- the limits by stage
-abbrev limits-by : Table → State → List ℕ
-limits-by t s = 0 ∷ t.channel_dl ∷ device_limit t (order_of s.phase) ∷ t.channel_dl ∷ []
+abbrev limits_by : Table → State → List ℕ
+limits_by t s = 0 ∷ t.channel_dl ∷ device_limit t (order_of s.phase) ∷ t.channel_dl ∷ []
 
 -- the channel's limit in stages 1 and 3
-pub by-channel : (ch device g : ℕ) → 1 ≤ g → g < 4 → ¬ (g ≡ 2) → get_or (0 ∷ ch ∷ device ∷ ch ∷ []) g 0 ≡ ch
-by-channel ch device = from _ 1 3 (omega arith)
+pub by_channel : (ch device g : ℕ) → 1 ≤ g → g < 4 → ¬ (g ≡ 2) → get_or (0 ∷ ch ∷ device ∷ ch ∷ []) g 0 ≡ ch
+by_channel ch device = from _ 1 3 (omega arith)
 
 -- no limit in the others
-pub no-limit : (t : Table) (s : State) → NoneOf (3 ∷ 2 ∷ 1 ∷ []) s.stage → 0 ≡ stage_limit t s
-no-limit t s r =
+pub no_limit : (t : Table) (s : State) → NoneOf (3 ∷ 2 ∷ 1 ∷ []) s.stage → 0 ≡ stage_limit t s
+no_limit t s r =
     elim (dec_lt s.stage 4) [
-      | yes h ↦ otherwise 0 (λ g. get_or (limits-by t s) g 0) (3 ∷ 2 ∷ 1 ∷ []) 0 4 (omega arith) s.stage zero-le h r
-      | no h ↦ sym (get_or-eq_default (limits-by t s) 0 {n = s.stage} (omega arith))
+      | yes h ↦ otherwise 0 (λ g. get_or (limits_by t s) g 0) (3 ∷ 2 ∷ 1 ∷ []) 0 4 (omega arith) s.stage zero-le h r
+      | no h ↦ sym (get_or-eq_default (limits_by t s) 0 {n = s.stage} (omega arith))
     ]
 
 -- one of these stages, and none of them
 module _ (g : ℕ) where
-  pub on-channel : (eqb g 1 || eqb g 3) ≡ true → (1 ≤ g) × (g ≤ 3) × ¬ (g ≡ 2)
-  on-channel e =
+  pub on_channel : (eqb g 1 || eqb g 3) ≡ true → (1 ≤ g) × (g ≤ 3) × ¬ (g ≡ 2)
+  on_channel e =
       ⊎_elim
       (λ t. let z = eqb→eq g 1 t in (omega arith, omega arith, λ two. absurd (omega arith)))
       (λ t. let z = eqb→eq g 3 t in (omega arith, omega arith, λ two. absurd (omega arith)))
       (either (eqb g 1) (eqb g 3) (passes (eqb g 1 || eqb g 3) e))
 
-  pub off-channel : (eqb g 1 || eqb g 3) ≡ false → ¬ (g ≡ 1) × ¬ (g ≡ 3)
-  off-channel e =
+  pub off_channel : (eqb g 1 || eqb g 3) ≡ false → ¬ (g ≡ 1) × ¬ (g ≡ 3)
+  off_channel e =
       case (eqb g 1)
       (λ y. let n = rw y at e in absurd (subst T n tt))
       (λ y. let n = rw y at e in (eqb-false g 1 y, eqb-false g 3 n))
 
 -- ---- EX, in the engine phases
 module _ (p x : ℕ) where
-  pub in-engine : 1 ≤ order_of p → order_of p ≤ 2 → cond (engine p) x 0 ≡ x
-  in-engine l m = rw (le-leb 1 (order_of p) l, le-leb (order_of p) 2 m)
+  pub in_engine : 1 ≤ order_of p → order_of p ≤ 2 → cond (engine p) x 0 ≡ x
+  in_engine l m = rw (le-leb 1 (order_of p) l, le-leb (order_of p) 2 m)
 
-  pub no-engine : 2 < order_of p → cond (engine p) x 0 ≡ 0
-  no-engine m = rw (le-leb 1 (order_of p) (omega arith), lt-leb (order_of p) 2 m)
+  pub no_engine : 2 < order_of p → cond (engine p) x 0 ≡ 0
+  no_engine m = rw (le-leb 1 (order_of p) (omega arith), lt-leb (order_of p) 2 m)
 
-pub engine-check :
+pub engine_check :
     {late : Bool} (t : Table) (s : State) → first (shifts_in s good) ≡ 0 → order_of s.phase ≤ 2
     → late ≡ ltb (take_bound t s) s.clock → cond late 10 0 ≡ first (in_take_time t s)
-engine-check t s z m e =
+engine_check t s z m e =
     let held = first→holds 0 (shifts_in s good) tt z in
     let some = ordered s.phase (omega (arith, tests)) (omega (arith, tests)) in
-    rw (in-engine s.phase s.clock some m) (one-check s.clock (take_bound t s) 10 e)
+    rw (in_engine s.phase s.clock some m) (one_check s.clock (take_bound t s) 10 e)
 
 -- ---- the delays, in the open and close phases
 module _ (p x : ℕ) where
-  pub in-clutch : 3 ≤ order_of p → order_of p ≤ 4 → cond (clutch_order p) x 0 ≡ x
-  in-clutch l m = rw (le-leb 3 (order_of p) l, le-leb (order_of p) 4 m)
+  pub in_clutch : 3 ≤ order_of p → order_of p ≤ 4 → cond (clutch_order p) x 0 ≡ x
+  in_clutch l m = rw (le-leb 3 (order_of p) l, le-leb (order_of p) 4 m)
 
-  pub before-clutch : order_of p < 3 → cond (clutch_order p) x 0 ≡ 0
-  before-clutch l = rw (lt-leb 3 (order_of p) l)
+  pub before_clutch : order_of p < 3 → cond (clutch_order p) x 0 ≡ 0
+  before_clutch l = rw (lt-leb 3 (order_of p) l)
 
-  pub past-clutch : 4 < order_of p → cond (clutch_order p) x 0 ≡ 0
-  past-clutch m = rw (le-leb 3 (order_of p) (omega arith), lt-leb (order_of p) 4 m)
+  pub past_clutch : 4 < order_of p → cond (clutch_order p) x 0 ≡ 0
+  past_clutch m = rw (le-leb 3 (order_of p) (omega arith), lt-leb (order_of p) 4 m)
 
 -- what is asked of the time by a delay, and nothing where the order is not the clutch's
-pub not-before-a-delay :
+pub not_before_a_delay :
     (s : State) (delay : ℕ) → 3 ≤ order_of s.phase → order_of s.phase ≤ 4
     → cond (ltb s.clock (s.stage_time + delay)) 9 0 ≡ first (in_report_time s (s.stage_time + delay))
-not-before-a-delay s delay l m =
-    let bound = s.stage_time + delay in rw (in-clutch s.phase bound l m) (one-check bound s.clock 9 refl)
+not_before_a_delay s delay l m =
+    let bound = s.stage_time + delay in rw (in_clutch s.phase bound l m) (one_check bound s.clock 9 refl)
 
-pub at-any-time : (s : State) (bound : ℕ) → ¬ (order_of s.phase ≡ 3) → ¬ (order_of s.phase ≡ 4) → 0 ≡ first (in_report_time s bound)
-at-any-time s bound n m =
+pub at_any_time : (s : State) (bound : ℕ) → ¬ (order_of s.phase ≡ 3) → ¬ (order_of s.phase ≡ 4) → 0 ≡ first (in_report_time s bound)
+at_any_time s bound n m =
     elim (dec_lt (order_of s.phase) 3) [
-      | yes l ↦ rw (before-clutch s.phase bound l, le-leb 0 s.clock zero-le)
-      | no l ↦ rw (past-clutch s.phase bound (omega arith), le-leb 0 s.clock zero-le)
+      | yes l ↦ rw (before_clutch s.phase bound l, le-leb 0 s.clock zero-le)
+      | no l ↦ rw (past_clutch s.phase bound (omega arith), le-leb 0 s.clock zero-le)
     ]

@@ -14,7 +14,7 @@ NoCode code = (code ≡ 0) ⊎ (13 < code)
 
 -- 6: the middle byte is not 0, or the amount is not 0 for codes 1 to 11 and 13, not 1 to 65,535 for code 12
 pub record Formed (code middle amount : ℕ) : Type 0 where
-  pub middle-byte : middle ≡ 0
+  pub middle_byte : middle ≡ 0
   pub plain : ¬ (code ≡ 12) → amount ≡ 0
   pub tick : code ≡ 12 → (1 ≤ amount) × (amount ≤ 65535)
 

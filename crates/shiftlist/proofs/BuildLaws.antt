@@ -12,7 +12,7 @@ use Rattle.stepfile.specs.Records.{records_in}
 use Rattle.stepfile.specs.Files.{table_in, refusal_of, from_offset, readings_of, record_offset}
 use Rattle.stepfile.proofs.WholeLaws.{good-file}
 use Rattle.trace.specs.Traces.{trace_of}
-use Rattle.trace.proofs.TraceLaws.{Sound, accepted-sound}
+use Rattle.trace.proofs.TraceLaws.{Sound, accepted_sound}
 use Rattle.verdict.specs.declared.Verdict.{Verdict}
 use Rattle.verdict.specs.Verdicts.{reading, verdict_of}
 use Rattle.verdict.proofs.Judging.{read-verdict}
@@ -23,8 +23,8 @@ use Rattle.shiftlist.specs.Lists.{entries_of, header_of, list_of, shifts_of, siz
 use Rattle.shiftlist.specs.Walks.{coded_in, idle, laid_by, size_with}
 use Rattle.shiftlist.proofs.WalkLaws.{listed, shifts-same}
 use Rattle.shiftlist.proofs.Extended.{from-rest}
-use Rattle.shiftlist.proofs.CodeLaws.{laid-as-listed}
-use Rattle.shiftlist.proofs.ListLaws.{list-long}
+use Rattle.shiftlist.proofs.CodeLaws.{laid_as_listed}
+use Rattle.shiftlist.proofs.ListLaws.{list_long}
 use Rattle.shiftlist.proofs.LaidLaws.{laid}
 
 -- ---- an accepted file
@@ -43,32 +43,32 @@ module _ (f : List ℕ) (z : (verdict_of f).number ≡ 0) where
   pub same-records : records_in (from_offset f) ≡ readings_of f
   same-records = ap (λ b. records_in (cond b (from_offset f) [])) (sym (eq-eqb (refusal_of f).number 0 read))
 
-  pub all-accepted : (run (table_in f) start (readings_of f)).number ≡ 0
-  all-accepted = ap (λ (v : Verdict). v.number) (read-verdict f read) ∙ z
+  pub all_accepted : (run (table_in f) start (readings_of f)).number ≡ 0
+  all_accepted = ap (λ (v : Verdict). v.number) (read-verdict f read) ∙ z
 
-  pub file-sound : Sound (trace_of start) (readings_of f)
-  file-sound = accepted-sound (table_in f) start (readings_of f) (omega arith) all-accepted
+  pub file_sound : Sound (trace_of start) (readings_of f)
+  file_sound = accepted_sound (table_in f) start (readings_of f) (omega arith) all_accepted
 
-  records-sound : Sound (trace_of start) (records_in (from_offset f))
-  records-sound = subst (λ rs. Sound (trace_of start) rs) (sym same-records) file-sound
+  records_sound : Sound (trace_of start) (records_in (from_offset f))
+  records_sound = subst (λ rs. Sound (trace_of start) rs) (sym same-records) file_sound
 
-  pub few-records : 0 + length (from_offset f) / 4 ≤ 16372
-  few-records =
+  pub few_records : 0 + length (from_offset f) / 4 ≤ 16372
+  few_records =
       let g = good-file f read in
       let long : 12 ≤ length f = omega (arith, g.whole) in
       let there : from_offset f ≡ drop (record_offset f) f = rw (le-leb 12 (length f) long) in
       let size = ap length there ∙ length-drop (record_offset f) f in
       omega (arith, size, g.whole, g.follow, g.most)
 
-  pub laid-is-the-list : laid_by begin 0 (coded_in (from_offset f)) ≡ shifts_of f
-  laid-is-the-list =
-      laid-as-listed begin 0 (from_offset f) records-sound
+  pub laid_is_the_list : laid_by begin 0 (coded_in (from_offset f)) ≡ shifts_of f
+  laid_is_the_list =
+      laid_as_listed begin 0 (from_offset f) records_sound
       ∙ ap (listed begin 0) same-records
-      ∙ from-rest 0 (trace_of start) (readings_of f) refl file-sound
+      ∙ from-rest 0 (trace_of start) (readings_of f) refl file_sound
       ∙ sym (shifts-same 0 start (readings_of f))
 
   pub size-laid : (out : List ℕ) → size_with out 8 begin 0 (from_offset f) ≡ size_for (shifts_of f)
-  size-laid out = ap size_for laid-is-the-list
+  size-laid out = ap size_for laid_is_the_list
 
 -- ---- a whole list in a buffer
 pub list-stored :
@@ -78,7 +78,7 @@ list-stored out n es e h =
     let m : (n - 8) / 16 ≡ length es = omega (arith, e) in
     ap (λ k. sets (sets out 0 (bytes_of (header_of k))) 8 (bytes_of (entries_of es))) m
     ∙ sym (sets-append out 0 (bytes_of (header_of (length es))) (bytes_of (entries_of es)))
-    ∙ at-start out (list_of es) (size_for es) (list-long es) (omega (arith, e, h))
+    ∙ at-start out (list_of es) (size_for es) (list_long es) (omega (arith, e, h))
 
 -- ---- the answer, and the buffer after it
 module _ (f out : List ℕ) where
@@ -90,8 +90,8 @@ module _ (f out : List ℕ) where
       let other = ne_eqb (built_of f (length out)).number 0 (λ z. n (ap (λ (q : Listed). q.number) e ∙ z)) in
       (e, ap (λ b. cond b (list_of (shifts_of f) ++ drop (size_for (shifts_of f)) out) out) (sym other))
 
-  pub at-judge : (v : Verdict) → v ≡ verdict_of f → ¬ (v.number ≡ 0) → Leaves (refused_by v.number v.rule v.index v.excess) out
-  at-judge v e n =
+  pub at_judge : (v : Verdict) → v ≡ verdict_of f → ¬ (v.number ≡ 0) → Leaves (refused_by v.number v.rule v.index v.excess) out
+  at_judge v e n =
       let rest = fitting (size_for (shifts_of f)) (length out) in
       let by = refused_by v.number v.rule v.index v.excess in
       kept by n (ap (λ b. cond b rest by) (sym (ne_eqb v.number 0 n)) ∙ ap (λ q. after_judge q rest) e)
@@ -117,8 +117,8 @@ module _ (f out : List ℕ) where
         (same, ap (λ b. cond b (list_of (shifts_of f) ++ drop n out) out) (sym zero-there))
 
     -- by the size that was laid
-    pub not-laid : length out < size_with out 8 begin 0 (from_offset f) → Leaves (refused_by 15 0 0 0) out
-    not-laid h = at_room (omega (arith, h, size-laid f z out))
+    pub not_laid : length out < size_with out 8 begin 0 (from_offset f) → Leaves (refused_by 15 0 0 0) out
+    not_laid h = at_room (omega (arith, h, size-laid f z out))
 
     pub was-laid :
         size_with out 8 begin 0 (from_offset f) ≤ length out
@@ -128,7 +128,7 @@ module _ (f out : List ℕ) where
         let e = size-laid f z out in
         let k = built (omega (arith, h, e)) in (
           ap listed_long e ∙ k.0,
-          ap (λ es. sets (sets out 0 (bytes_of (header_of ((n - 8) / 16)))) 8 (bytes_of (entries_of es))) (laid-is-the-list f z)
+          ap (λ es. sets (sets out 0 (bytes_of (header_of ((n - 8) / 16)))) 8 (bytes_of (entries_of es))) (laid_is_the_list f z)
               ∙ list-stored out n (shifts_of f) e h
               ∙ k.1,
         )

@@ -13,7 +13,7 @@ use Rattle.shiftlist.specs.declared.Shift.{Shift}
 use Rattle.shiftlist.specs.declared.walk.Walk.{Walk}
 use Rattle.shiftlist.specs.Shifts.{kind_in, asks_in, kind_of, begun, entry_for}
 use Rattle.shiftlist.specs.Walks.{coded_in, trace_in, in_hand, ticked, walked_by, closes, with, laid_by}
-use Rattle.shiftlist.proofs.WalkLaws.{whole_on, shifts_on, walked, listed, same-trace}
+use Rattle.shiftlist.proofs.WalkLaws.{whole_on, shifts_on, walked, listed, same_trace}
 
 -- ---- the walk by a step's code and amount
 pub same-walk : (w : Walk) (i : ℕ) (x : Step) → (stepped (trace_in w) x).clock ≤ 4294967295 → walked_by w i (code_of x) (amount_of x) ≡ walked w i (Means x)
@@ -76,21 +76,21 @@ module _ (a b c d : ℕ) (w : Walk) (i : ℕ) (rs : List Reading) (h : Sound (tr
       ∙ same-walk w i x sound.1
       ∙ ap (walked w i) (sym step.is)
 
-  pub sound-on : Sound (trace_in (walked w i (record_of a b c d))) rs
-  sound-on =
+  pub sound_on : Sound (trace_in (walked w i (record_of a b c d))) rs
+  sound_on =
       subst (λ r. Sound (trace_in (walked w i r)) rs) (sym step.is)
-      (subst (λ q. Sound q rs) (sym (same-trace (kind_in x) w i (asks_in x) (stepped t x))) sound.2)
+      (subst (λ q. Sound q rs) (sym (same_trace (kind_in x) w i (asks_in x) (stepped t x))) sound.2)
 
 -- ---- all records of a part
-pub laid-as-listed : (w : Walk) (i : ℕ) (l : List ℕ) → Sound (trace_in w) (records_in l) → laid_by w i (coded_in l) ≡ listed w i (records_in l)
-laid-as-listed w i [] h = refl
-laid-as-listed w i (a ∷ []) h = refl
-laid-as-listed w i (a ∷ b ∷ []) h = refl
-laid-as-listed w i (a ∷ b ∷ c ∷ []) h = refl
-laid-as-listed w i (a ∷ b ∷ c ∷ d ∷ l) h =
+pub laid_as_listed : (w : Walk) (i : ℕ) (l : List ℕ) → Sound (trace_in w) (records_in l) → laid_by w i (coded_in l) ≡ listed w i (records_in l)
+laid_as_listed w i [] h = refl
+laid_as_listed w i (a ∷ []) h = refl
+laid_as_listed w i (a ∷ b ∷ []) h = refl
+laid_as_listed w i (a ∷ b ∷ c ∷ []) h = refl
+laid_as_listed w i (a ∷ b ∷ c ∷ d ∷ l) h =
     let w' = walked w i (record_of a b c d) in
     ap (λ (v : Walk). with (closes w.phase v.phase) (in_hand v) (laid_by v (suc i) (coded_in l))) (walked_same a b c d w i (records_in l) h)
-    ∙ ap (with (closes w.phase w'.phase) (in_hand w')) (laid-as-listed w' (suc i) l (sound-on a b c d w i (records_in l) h))
+    ∙ ap (with (closes w.phase w'.phase) (in_hand w')) (laid_as_listed w' (suc i) l (sound_on a b c d w i (records_in l) h))
 
 -- ---- there are as many shifts as requests
 entry_more : (k n : ℕ) (e : Shift) (es : List Shift) → length es ≡ n → length (entry_for k e es) ≡ one_more k n

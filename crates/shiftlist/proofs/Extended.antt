@@ -12,18 +12,18 @@ use Rattle.shiftlist.specs.declared.walk.Walk.{Walk}
 use Rattle.shiftlist.specs.Shifts.{kind_of, asks, end_of}
 use Rattle.shiftlist.specs.Walks.{trace_in, in_hand, closes, with, idle}
 use Rattle.shiftlist.proofs.PhaseSteps.{Moves, begins, goes, ends, rests, moves}
-use Rattle.shiftlist.proofs.WalkLaws.{whole_on, shifts_on, walked, listed, closed, at_end, makes, pieces, same-trace}
+use Rattle.shiftlist.proofs.WalkLaws.{whole_on, shifts_on, walked, listed, closed, at_end, makes, pieces, same_trace}
 
-pub sound-pieces : (t : Trace) (xs ys : List Reading) → Sound t (xs ++ ys) → Sound t xs × Sound (traced t xs) ys
-sound-pieces t [] ys h = (tt, h)
-sound-pieces t (Means x ∷ xs) ys h = let r = sound-pieces (stepped t x) xs ys h.2 in ((h.0, h.1, r.0), r.1)
-sound-pieces t (WrongCode ∷ xs) ys h = absurd h
-sound-pieces t (WrongAmount ∷ xs) ys h = absurd h
+pub sound_pieces : (t : Trace) (xs ys : List Reading) → Sound t (xs ++ ys) → Sound t xs × Sound (traced t xs) ys
+sound_pieces t [] ys h = (tt, h)
+sound_pieces t (Means x ∷ xs) ys h = let r = sound_pieces (stepped t x) xs ys h.2 in ((h.0, h.1, r.0), r.1)
+sound_pieces t (WrongCode ∷ xs) ys h = absurd h
+sound_pieces t (WrongAmount ∷ xs) ys h = absurd h
 
-pub end-trace : (w : Walk) (i : ℕ) (xs : List Reading) → trace_in (at_end w i xs) ≡ traced (trace_in w) xs
-end-trace w i [] = refl
-end-trace w i (x ∷ xs) =
-    end-trace (walked w i x) (suc i) xs ∙ ap (λ t. traced t xs) (same-trace (kind_of x) w i (asks x) (after (trace_in w) x))
+pub end_trace : (w : Walk) (i : ℕ) (xs : List Reading) → trace_in (at_end w i xs) ≡ traced (trace_in w) xs
+end_trace w i [] = refl
+end_trace w i (x ∷ xs) =
+    end_trace (walked w i x) (suc i) xs ∙ ap (λ t. traced t xs) (same_trace (kind_of x) w i (asks x) (after (trace_in w) x))
 
 pub from-rest : (i : ℕ) (t : Trace) (rs : List Reading) → unfinished t.phase ≡ false → Sound t rs → listed (idle t) i rs ≡ shifts_on i t rs
 from-rest i t rs u h = makes (idle t) i rs h ∙ ap (λ b. with b (whole_on (in_hand (idle t)) i t rs) (shifts_on i t rs)) u
@@ -55,7 +55,7 @@ closed-ended w i (Means x ∷ xs) h =
     let r = Means x in
     let t = stepped (trace_in w) x in
     let w' = walked w i r in
-    let e = same-trace (kind_of r) w i (asks r) t in
+    let e = same_trace (kind_of r) w i (asks r) t in
     let q = ap (λ (s : Trace). s.phase) e in
     with_each Ended (closes w.phase w'.phase) (in_hand w') (closed w' (suc i) xs)
     (λ b. subst (λ (p : ℕ). ¬ (end_of p ≡ 0)) (sym q)
@@ -75,7 +75,7 @@ shape i t xs u h =
     let w = idle t in (
       sym (sym (pieces w i xs []) ∙ ap (listed w i) (append-nil xs) ∙ from-rest i t xs u h),
       closed-ended w i xs h,
-      end-trace w i xs,
+      end_trace w i xs,
     )
 
 -- with more records: the ended entries, then what the walk makes of them from what is in hand

@@ -4,10 +4,10 @@ use Rattle.std.proofs.Common.{◌≡◌, ℕ, zero, suc, ◌+◌, ◌*◌, ◌/�
 use Rattle.checks.proofs.Checks.{refused, holds→first}
 use Rattle.checks.proofs.Tests.{tests}
 use Rattle.numbers.specs.Bytes.{u32_at, bytes_of}
-use Rattle.numbers.proofs.ReadLaws.{no_byte, no-u16, no-u32}
+use Rattle.numbers.proofs.ReadLaws.{no_byte, no_u16, no_u32}
 use Rattle.shiftlist.specs.declared.Shift.{Shift}
 use Rattle.shiftlist.specs.Lists.{numbers_of, entries_of, list_of, shift_at, no_shift, fetchable, found, fetch_of}
-use Rattle.shiftlist.proofs.ListLaws.{list-long}
+use Rattle.shiftlist.proofs.ListLaws.{list_long}
 
 -- the widths of an entry's fields
 pub record Fits (e : Shift) : Type 0 where
@@ -20,16 +20,16 @@ pub record Fits (e : Shift) : Type 0 where
   pub age : e.age < 4294967296
 
 -- behind the end zeros are read
-pub none-there : (l : List ℕ) (p : ℕ) → length l ≤ p → no_shift ≡ shift_at l p
-none-there l p h =
+pub none_there : (l : List ℕ) (p : ℕ) → length l ≤ p → no_shift ≡ shift_at l p
+none_there l p h =
     rw (
-      ← no-u16 l p h,
-      ← no-u16 l (p + 2) (omega arith),
+      ← no_u16 l p h,
+      ← no_u16 l (p + 2) (omega arith),
       ← no_byte l (p + 4) (omega arith),
       ← no_byte l (p + 5) (omega arith),
       ← no_byte l (p + 6) (omega arith),
-      ← no-u32 l (p + 8) (omega arith),
-      ← no-u32 l (p + 12) (omega arith),
+      ← no_u32 l (p + 8) (omega arith),
+      ← no_u32 l (p + 12) (omega arith),
     )
 
 -- the bytes from entry i on
@@ -50,8 +50,8 @@ module _ (l : List ℕ) (p : ℕ) where
   at j k e = sym (get_or-drop p l k 0 ∙ ap (λ m. get_or l m 0) e)
 
   -- an entry is read alike in what stands from its place on
-  pub shift-dropped : shift_at l p ≡ shift_at (drop p l) 0
-  shift-dropped =
+  pub shift_dropped : shift_at l p ≡ shift_at (drop p l) 0
+  shift_dropped =
       rw (
         at p 0 (omega arith),
         at (p + 1) 1 refl,
@@ -70,8 +70,8 @@ module _ (l : List ℕ) (p : ℕ) where
         at (p + 12 + 2 + 1) 15 (omega arith),
       )
 
-pub shift-read : (e : Shift) (bs : List ℕ) → Fits e → shift_at (bytes_of (numbers_of e) ++ bs) 0 ≡ e
-shift-read e bs f =
+pub shift_read : (e : Shift) (bs : List ℕ) → Fits e → shift_at (bytes_of (numbers_of e) ++ bs) 0 ≡ e
+shift_read e bs f =
     let a : e.first % 256 + 256 * (e.first / 256) ≡ e.first = omega arith in
     let b : e.last % 256 + 256 * (e.last / 256) ≡ e.last = omega arith in
     let c : (e.kind + 256 * e.route) % 256 ≡ e.kind = omega (arith, f.kind) in
@@ -97,7 +97,7 @@ module _ (es : List Shift) (many : length es < 4294967296) where
   pub past-count : (i : ℕ) → n ≤ i → fetch_of l i ≡ record { number = 14; shift = no_shift }
   past-count i h =
       let o : u32_at l 4 ≡ 8 = refl in
-      ap (λ k. found k (shift_at l (8 + 16 * i))) (refused (fetchable (length l) (u32_at l 4) (u32_at l 0) i) 3 (omega (arith, tests, list-long es, count-read, o)))
+      ap (λ k. found k (shift_at l (8 + 16 * i))) (refused (fetchable (length l) (u32_at l 4) (u32_at l 0) i) 3 (omega (arith, tests, list_long es, count-read, o)))
 
   pub fetched : (i : ℕ) → i < n → Fits (get_or es i no_shift) → fetch_of l i ≡ record { number = 0; shift = get_or es i no_shift }
   fetched i h f =
@@ -106,6 +106,6 @@ module _ (es : List Shift) (many : length es < 4294967296) where
       let there : drop (8 + 16 * i) l ≡ bytes_of (numbers_of e ++ entries_of (drop (suc i) es)) =
       list-from i es ∙ ap (λ xs. bytes_of (entries_of xs)) (drop-cons es i no_shift h)
       in
-      ap (λ k. found k (shift_at l (8 + 16 * i))) (holds→first (fetchable (length l) (u32_at l 4) (u32_at l 0) i) (omega (arith, tests, list-long es, count-read, o)))
+      ap (λ k. found k (shift_at l (8 + 16 * i))) (holds→first (fetchable (length l) (u32_at l 4) (u32_at l 0) i) (omega (arith, tests, list_long es, count-read, o)))
       ∙ ap (λ (q : Shift). record { number = 0; shift = q })
-      (shift-dropped l (8 + 16 * i) ∙ ap (λ m. shift_at m 0) there ∙ shift-read e (bytes_of (entries_of (drop (suc i) es))) f)
+      (shift_dropped l (8 + 16 * i) ∙ ap (λ m. shift_at m 0) there ∙ shift_read e (bytes_of (entries_of (drop (suc i) es))) f)

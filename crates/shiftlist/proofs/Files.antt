@@ -14,15 +14,15 @@ use Rattle.shiftlist.specs.declared.Listed.{Listed}
 use Rattle.shiftlist.specs.declared.Fetched.{Fetched}
 use Rattle.shiftlist.specs.Lists.{list_of, shifts_of, size_for, built_of, buffer_after, no_shift, fetch_of}
 use Rattle.shiftlist.specs.Entries.{Entries}
-use Rattle.shiftlist.proofs.ListLaws.{list-long}
+use Rattle.shiftlist.proofs.ListLaws.{list_long}
 use Rattle.shiftlist.proofs.BuildLaws.{built}
 use Rattle.shiftlist.proofs.FetchLaws.{fetched, past-count}
-use Rattle.shiftlist.proofs.EntryLaws.{the-entries}
-use Rattle.shiftlist.proofs.WidthLaws.{shifts-of-a-file, entries-of-a-file-fit}
-use Rattle.shiftlist.specs.contracts.build as build-call
-use Rattle.shiftlist.proofs.build.Reads as build-reads
-use Rattle.shiftlist.specs.contracts.fetch as fetch-call
-use Rattle.shiftlist.proofs.fetch.Reads as fetch-reads
+use Rattle.shiftlist.proofs.EntryLaws.{the_entries}
+use Rattle.shiftlist.proofs.WidthLaws.{shifts_of_a_file, entries_of_a_file_fit}
+use Rattle.shiftlist.specs.contracts.build as build_call
+use Rattle.shiftlist.proofs.build.Reads as build_reads
+use Rattle.shiftlist.specs.contracts.fetch as fetch_call
+use Rattle.shiftlist.proofs.fetch.Reads as fetch_reads
 
 -- ---- what is said
 -- the file is accepted, the first n bytes of a buffer are the list of its shifts, n is its length, all other bytes are as before, and
@@ -46,8 +46,8 @@ module _ (f before after : List ℕ) (r : Listed) (a : r ≡ built_of f (length 
   es = shifts_of f
 
   -- an answer of 0 tells that the file is accepted, and that there is room
-  judged-and-fits : (built_of f (length before)).number ≡ 0 → ((verdict_of f).number ≡ 0) × (size_for es ≤ length before)
-  judged-and-fits e =
+  judged_and_fits : (built_of f (length before)).number ≡ 0 → ((verdict_of f).number ≡ 0) × (size_for es ≤ length before)
+  judged_and_fits e =
       case (eqb (verdict_of f).number 0)
       (λ p.
       case (leb (size_for es) (length before))
@@ -57,18 +57,18 @@ module _ (f before after : List ℕ) (r : Listed) (a : r ≡ built_of f (length 
 
   pub stands : r.number ≡ 0 → ListStands f r.length before after
   stands z =
-      let h = judged-and-fits (ap (λ (q : Listed). q.number) (sym a) ∙ z) in
+      let h = judged_and_fits (ap (λ (q : Listed). q.number) (sym a) ∙ z) in
       let k = built f before h.0 h.1 in
       let buffer = b ∙ sym k.1 in
       let n = size_for es in
-      let long = list-long es in
+      let long = list_long es in
       let first = ap (take n) buffer ∙ take_at (list_of es) (drop n before) n long in
       subst (λ m. ListStands f m before after) (ap (λ (q : Listed). q.length) (k.0 ∙ sym a)) record {
         accepted = h.0;
         list = first;
         size = ap length first ∙ long;
         rest = ap (drop n) buffer ∙ drop_at (list_of es) (drop n before) n long;
-        entries = the-entries start (readings_of f);
+        entries = the_entries start (readings_of f);
       }
 
 -- ---- of what is fetched from the list of an accepted file
@@ -77,27 +77,27 @@ module _ (f : List ℕ) (z : (verdict_of f).number ≡ 0) (i : ℕ) where
   n = length (shifts_of f)
 
   few : n < 4294967296
-  few = omega (arith, shifts-of-a-file f z)
+  few = omega (arith, shifts_of_a_file f z)
 
-  one-there : i < n → fetch_of (list_of (shifts_of f)) i ≡ record { number = 0; shift = get_or (shifts_of f) i no_shift }
-  one-there h = fetched (shifts_of f) few i h (entries-of-a-file-fit f z i h)
+  one_there : i < n → fetch_of (list_of (shifts_of f)) i ≡ record { number = 0; shift = get_or (shifts_of f) i no_shift }
+  one_there h = fetched (shifts_of f) few i h (entries_of_a_file_fit f z i h)
 
-  pub fetched-so : FetchedFrom (shifts_of f) i (fetch_of (list_of (shifts_of f)) i)
-  fetched-so = record {
-    below = one-there;
+  pub fetched_so : FetchedFrom (shifts_of f) i (fetch_of (list_of (shifts_of f)) i)
+  fetched_so = record {
+    below = one_there;
     past = past-count (shifts_of f) few i;
     only-past =
         λ e.
         case (leb n i) (leb-true n i)
         (λ l.
-        let zero-there = ap (λ (q : Fetched). q.number) (one-there (leb-false n i l)) in
+        let zero-there = ap (λ (q : Fetched). q.number) (one_there (leb-false n i l)) in
         absurd (omega (arith, zero-there, e)));
   }
 
 -- ---- of a call of `build`, whatever its contract allows
 module _
-    (κs : Lfts 2) (given : Args build-call.signature κs) (r : Listed) (left : AtExit build-call.ended κs)
-    (call : build-reads.Post κs given r left) where
+    (κs : Lfts 2) (given : Args build_call.signature κs) (r : Listed) (left : AtExit build_call.ended κs)
+    (call : build_reads.Post κs given r left) where
   abbrev pub file : List ℕ
   file = given.0.now
 
@@ -108,25 +108,25 @@ module _
   abbrev pub after : List ℕ
   after = left.1.0.now
 
-  pub the-list-of-a-file : r.number ≡ 0 → ListStands file r.length before after
-  the-list-of-a-file = stands file before after r call.0 call.1
+  pub the_list_of_a_file : r.number ≡ 0 → ListStands file r.length before after
+  the_list_of_a_file = stands file before after r call.0 call.1
 
   -- of any call of `fetch` on the bytes that it left
-  pub fetched-from-what-was-built :
-      (κs' : Lfts 1) (lent : Args fetch-call.signature κs') (s : Fetched) (left' : AtExit fetch-call.ended κs')
-      → fetch-reads.Post κs' lent s left' → r.number ≡ 0 → lent.0.now ≡ take r.length after
+  pub fetched_from_what_was_built :
+      (κs' : Lfts 1) (lent : Args fetch_call.signature κs') (s : Fetched) (left' : AtExit fetch_call.ended κs')
+      → fetch_reads.Post κs' lent s left' → r.number ≡ 0 → lent.0.now ≡ take r.length after
       → FetchedFrom (shifts_of file) lent.1.0 s
-  fetched-from-what-was-built κs' lent s left' said z e =
-      let l = the-list-of-a-file z in
+  fetched_from_what_was_built κs' lent s left' said z e =
+      let l = the_list_of_a_file z in
       subst (FetchedFrom (shifts_of file) lent.1.0)
       (ap (λ b. fetch_of b lent.1.0) (sym (e ∙ l.list)) ∙ sym said)
-      (fetched-so file l.accepted lent.1.0)
+      (fetched_so file l.accepted lent.1.0)
 
 -- ---- of a call of `fetch`
 module _
-    (κs : Lfts 1) (given : Args fetch-call.signature κs) (r : Fetched) (left : AtExit fetch-call.ended κs)
-    (call : fetch-reads.Post κs given r left) where
-  pub fetched-from-the-list-of-a-file :
+    (κs : Lfts 1) (given : Args fetch_call.signature κs) (r : Fetched) (left : AtExit fetch_call.ended κs)
+    (call : fetch_reads.Post κs given r left) where
+  pub fetched_from_the_list_of_a_file :
       (f : List ℕ) → (verdict_of f).number ≡ 0 → given.0.now ≡ list_of (shifts_of f) → FetchedFrom (shifts_of f) given.1.0 r
-  fetched-from-the-list-of-a-file f z e =
-      subst (FetchedFrom (shifts_of f) given.1.0) (ap (λ b. fetch_of b given.1.0) (sym e) ∙ sym call) (fetched-so f z given.1.0)
+  fetched_from_the_list_of_a_file f z e =
+      subst (FetchedFrom (shifts_of f) given.1.0) (ap (λ b. fetch_of b given.1.0) (sym e) ∙ sym call) (fetched_so f z given.1.0)

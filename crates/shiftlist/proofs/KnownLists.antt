@@ -3,21 +3,21 @@
 -- Assumes nothing.
 use Rattle.std.proofs.Common.{◌≡◌, [], ◌∷◌, refl}
 use Rattle.stepfile.specs.Files.{table_in}
-use Rattle.verdict.proofs.KnownFiles.{k1, k6, would-not-close}
+use Rattle.verdict.proofs.KnownFiles.{k1, k6, would_not_close}
 use Rattle.shiftlist.specs.Lists.{list_of, shifts_of}
 
 -- from its request, record 0 at clock 0, to the take that enters 22, record 10 at 410
-pub k1-is-listed : list_of (shifts_of k1) ≡ 1 ∷ 0 ∷ 0 ∷ 0 ∷ 8 ∷ 0 ∷ 0 ∷ 0 ∷ 0 ∷ 0 ∷ 10 ∷ 0 ∷ 1 ∷ 0 ∷ 1 ∷ 0 ∷ 0 ∷ 0 ∷ 0 ∷ 0 ∷ 154 ∷ 1 ∷ 0 ∷ 0 ∷ []
+pub k1_is_listed : list_of (shifts_of k1) ≡ 1 ∷ 0 ∷ 0 ∷ 0 ∷ 8 ∷ 0 ∷ 0 ∷ 0 ∷ 0 ∷ 0 ∷ 10 ∷ 0 ∷ 1 ∷ 0 ∷ 1 ∷ 0 ∷ 0 ∷ 0 ∷ 0 ∷ 0 ∷ 154 ∷ 1 ∷ 0 ∷ 0 ∷ []
 unfolding table_in
-k1-is-listed = refl
+k1_is_listed = refl
 
 -- to the last record, 4, the ask clutch at 151
-pub k6-is-listed : list_of (shifts_of k6) ≡ 1 ∷ 0 ∷ 0 ∷ 0 ∷ 8 ∷ 0 ∷ 0 ∷ 0 ∷ 0 ∷ 0 ∷ 4 ∷ 0 ∷ 1 ∷ 1 ∷ 0 ∷ 0 ∷ 0 ∷ 0 ∷ 0 ∷ 0 ∷ 151 ∷ 0 ∷ 0 ∷ 0 ∷ []
+pub k6_is_listed : list_of (shifts_of k6) ≡ 1 ∷ 0 ∷ 0 ∷ 0 ∷ 8 ∷ 0 ∷ 0 ∷ 0 ∷ 0 ∷ 0 ∷ 4 ∷ 0 ∷ 1 ∷ 1 ∷ 0 ∷ 0 ∷ 0 ∷ 0 ∷ 0 ∷ 0 ∷ 151 ∷ 0 ∷ 0 ∷ 0 ∷ []
 unfolding table_in
-k6-is-listed = refl
+k6_is_listed = refl
 
 -- to the error that is raised, record 13 at 151
-pub would-not-close-is-listed :
-    list_of (shifts_of would-not-close) ≡ 1 ∷ 0 ∷ 0 ∷ 0 ∷ 8 ∷ 0 ∷ 0 ∷ 0 ∷ 0 ∷ 0 ∷ 13 ∷ 0 ∷ 1 ∷ 1 ∷ 2 ∷ 0 ∷ 0 ∷ 0 ∷ 0 ∷ 0 ∷ 151 ∷ 0 ∷ 0 ∷ 0 ∷ []
+pub would_not_close_is_listed :
+    list_of (shifts_of would_not_close) ≡ 1 ∷ 0 ∷ 0 ∷ 0 ∷ 8 ∷ 0 ∷ 0 ∷ 0 ∷ 0 ∷ 0 ∷ 13 ∷ 0 ∷ 1 ∷ 1 ∷ 2 ∷ 0 ∷ 0 ∷ 0 ∷ 0 ∷ 0 ∷ 151 ∷ 0 ∷ 0 ∷ 0 ∷ []
 unfolding table_in
-would-not-close-is-listed = refl
+would_not_close_is_listed = refl

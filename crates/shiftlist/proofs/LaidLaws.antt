@@ -10,9 +10,9 @@ use Rattle.shiftlist.specs.declared.walk.Walk.{Walk}
 use Rattle.shiftlist.specs.Lists.{entries_of, header_of}
 use Rattle.shiftlist.specs.Walks.{coded_in, laid_by, size_with, layable, laid_size, laid_in}
 
-never-second : (a b : Bool) → b ≡ false → a && b ≡ false
-never-second true b e = e
-never-second false b e = refl
+never_second : (a b : Bool) → b ≡ false → a && b ≡ false
+never_second true b e = e
+never_second false b e = refl
 
 module _ (l : List ℕ) (from : ℕ) (w : Walk) (i : ℕ) (bytes : List ℕ) where
   abbrev pub size : ℕ
@@ -34,13 +34,13 @@ module _ (l : List ℕ) (from : ℕ) (w : Walk) (i : ℕ) (bytes : List ℕ) whe
   place = leb 8 from && (leb from 261960 && leb size (length l))
 
   second : place ≡ false → Leaves 0 l
-  second e = nothing (never-second (leb (i + length bytes / 4) 16372) place e)
+  second e = nothing (never_second (leb (i + length bytes / 4) 16372) place e)
 
   third : leb from 261960 && leb size (length l) ≡ false → Leaves 0 l
-  third e = second (never-second (leb 8 from) (leb from 261960 && leb size (length l)) e)
+  third e = second (never_second (leb 8 from) (leb from 261960 && leb size (length l)) e)
 
   pub no_room : length l < size → Leaves 0 l
-  no_room h = third (never-second (leb from 261960) (leb size (length l)) (lt-leb size (length l) h))
+  no_room h = third (never_second (leb from 261960) (leb size (length l)) (lt-leb size (length l) h))
 
   pub no_place : ltb from 8 || ltb 261960 from ≡ true → Leaves 0 l
   no_place e =
@@ -65,10 +65,10 @@ module _ (l : List ℕ) (from : ℕ) (w : Walk) (i : ℕ) (bytes : List ℕ) (a 
       (λ h. let k = all_laid l from w i bytes a b (leb-true all (length l) h) in absurd (omega (arith, e, z, k.0, b.0)))
       (λ h. (leb-false all (length l) h, (no_room l from w i bytes (leb-false all (length l) h)).1))
 
-  pub some-laid :
+  pub some_laid :
       (r : ℕ) → r ≡ laid_size l from w i bytes → ¬ (r ≡ 0)
       → (all ≤ length l) × (r ≡ all) × (laid_in l from w i bytes ≡ laid l from w i bytes)
-  some-laid r e n =
+  some_laid r e n =
       case (leb all (length l))
       (λ h. let k = all_laid l from w i bytes a b (leb-true all (length l) h) in (leb-true all (length l) h, e ∙ sym k.0, sym k.1))
       (λ h. absurd (n (e ∙ sym (no_room l from w i bytes (leb-false all (length l) h)).0)))
@@ -80,5 +80,5 @@ in_place from e =
     (λ p. let q = rw p at e in (ltb-false from 8 p, ltb-false 261960 from q))
 
 -- the header is stored as two numbers
-pub header-stored : (l : List ℕ) (n : ℕ) → sets (sets l 0 (bytes_of (halves n []))) 4 (bytes_of (halves 8 [])) ≡ sets l 0 (bytes_of (header_of n))
-header-stored l n = sym (next32 l 0 4 n (halves 8 []) refl)
+pub header_stored : (l : List ℕ) (n : ℕ) → sets (sets l 0 (bytes_of (halves n []))) 4 (bytes_of (halves 8 [])) ≡ sets l 0 (bytes_of (header_of n))
+header_stored l n = sym (next32 l 0 4 n (halves 8 []) refl)

@@ -68,8 +68,8 @@ module _
 same-phase : (p : ℕ) → closes p p ≡ false
 same-phase p = case (leb p 21) (λ e. let l = leb-true p 21 e in rw (e, lt-leb 22 p (omega arith))) (λ e. rw e)
 
-still-is : (w : Walk) (n c a : ℕ) → is_still c ≡ true → ticked w n w.clock ≡ walked_by w n c a
-still-is w n c a e =
+still_is : (w : Walk) (n c a : ℕ) → is_still c ≡ true → ticked w n w.clock ≡ walked_by w n c a
+still_is w n c a e =
     let t = passes (is_still c) e in
     from (λ j. ticked w n w.clock ≡ walked_by w n j a) 4 4 (refl, (refl, (refl, (refl, tt)))) c (leb→le 4 c (left (leb 4 c) (leb c 7) t))
     (at_most c (leb→le c 7 (right (leb 4 c) (leb c 7) t)))
@@ -81,8 +81,8 @@ still-is w n c a e =
 abbrev pub gone_on : Walk → ℕ → ℕ → Walk
 gone_on w n q = holding w.clock q w.first n w.kind w.route w.request_time
 
-takes-is : (w : Walk) (n c a : ℕ) → c ≡ 8 → gone_on w n (next_of w.phase) ≡ walked_by w n c a
-takes-is w n c a e = ap (λ j. walked_by w n j a) (sym e)
+takes_is : (w : Walk) (n c a : ℕ) → c ≡ 8 → gone_on w n (next_of w.phase) ≡ walked_by w n c a
+takes_is w n c a e = ap (λ j. walked_by w n j a) (sym e)
 
 module _ (l : List ℕ) (i : ℕ) (inside : 4 * i + 3 < length l) (w : Walk) (n m : ℕ) (em : n + 1 ≡ m) where
   abbrev c : ℕ
@@ -91,25 +91,25 @@ module _ (l : List ℕ) (i : ℕ) (inside : 4 * i + 3 < length l) (w : Walk) (n 
   abbrev a : ℕ
   a = amount l i inside
 
-  open-on : (v : Walk) → v ≡ walked_by w n c a → closes w.phase v.phase ≡ false → laid_by w n (rest_of l i) ≡ laid_by v m (rest_of l (i + 1))
-  open-on v e f = made l i inside w n m em v a refl e ∙ ap (λ b. with b (in_hand v) (laid_by v m (rest_of l (i + 1)))) f
+  open_on : (v : Walk) → v ≡ walked_by w n c a → closes w.phase v.phase ≡ false → laid_by w n (rest_of l i) ≡ laid_by v m (rest_of l (i + 1))
+  open_on v e f = made l i inside w n m em v a refl e ∙ ap (λ b. with b (in_hand v) (laid_by v m (rest_of l (i + 1)))) f
 
-  pub tick-made : c ≡ 12 → (k : ℕ) → k ≡ clock_by w.clock a → laid_by w n (rest_of l i) ≡ laid_by (ticked w n k) m (rest_of l (i + 1))
-  tick-made e k ek = open-on (ticked w n k) (ap (ticked w n) ek ∙ ap (λ b. cond b (ticked w n (clock_by w.clock a)) (stepped_by w n c)) (sym (eq-eqb c 12 e))) (same-phase w.phase)
+  pub tick_made : c ≡ 12 → (k : ℕ) → k ≡ clock_by w.clock a → laid_by w n (rest_of l i) ≡ laid_by (ticked w n k) m (rest_of l (i + 1))
+  tick_made e k ek = open_on (ticked w n k) (ap (ticked w n) ek ∙ ap (λ b. cond b (ticked w n (clock_by w.clock a)) (stepped_by w n c)) (sym (eq-eqb c 12 e))) (same-phase w.phase)
 
-  pub still-made : is_still c ≡ true → laid_by w n (rest_of l i) ≡ laid_by (ticked w n w.clock) m (rest_of l (i + 1))
-  still-made e = open-on (ticked w n w.clock) (still-is w n c a e) (same-phase w.phase)
+  pub still_made : is_still c ≡ true → laid_by w n (rest_of l i) ≡ laid_by (ticked w n w.clock) m (rest_of l (i + 1))
+  still_made e = open_on (ticked w n w.clock) (still_is w n c a e) (same-phase w.phase)
 
-  pub takes-made : takes_on w.phase c ≡ true → (q : ℕ) → q ≡ next_of w.phase → laid_by w n (rest_of l i) ≡ laid_by (gone_on w n q) m (rest_of l (i + 1))
-  takes-made e q eq =
+  pub takes_made : takes_on w.phase c ≡ true → (q : ℕ) → q ≡ next_of w.phase → laid_by w n (rest_of l i) ≡ laid_by (gone_on w n q) m (rest_of l (i + 1))
+  takes_made e q eq =
       let t = passes (takes_on w.phase c) e in
       let small = leb→le (next_of w.phase) 21 (right (eqb c 8) (leb (next_of w.phase) 21) t) in
-      open-on (gone_on w n q) (ap (gone_on w n) eq ∙ takes-is w n c a (eqb→eq c 8 (left (eqb c 8) (leb (next_of w.phase) 21) t)))
+      open_on (gone_on w n q) (ap (gone_on w n) eq ∙ takes_is w n c a (eqb→eq c 8 (left (eqb c 8) (leb (next_of w.phase) 21) t)))
       (never (leb w.phase 21) (leb 22 q) (lt-leb 22 q (omega (arith, small, eq))))
 
 -- ---- any other record
-pub other-is : (w : Walk) (n c a : ℕ) → ¬ (c ≡ 12) → stepped_by w n c ≡ walked_by w n c a
-other-is w n c a e = ap (λ b. cond b (ticked w n (clock_by w.clock a)) (stepped_by w n c)) (sym (ne_eqb c 12 e))
+pub other_is : (w : Walk) (n c a : ℕ) → ¬ (c ≡ 12) → stepped_by w n c ≡ walked_by w n c a
+other_is w n c a e = ap (λ b. cond b (ticked w n (clock_by w.clock a)) (stepped_by w n c)) (sym (ne_eqb c 12 e))
 
 -- the last record before it does not matter, and afterwards it is the last one
 pub last_goes : (clock phase first last last' kind route time n c : ℕ) → stepped_by (holding clock phase first last kind route time) n c ≡ stepped_by (holding clock phase first last' kind route time) n c
@@ -135,9 +135,9 @@ stepped-holds w n c v e =
 pub none_before : (last from i : ℕ) → i ≡ 0 → last ≡ last_before last from i
 none_before last from i e = ap (last_before last from) (sym e)
 
-pub one-before : (last from i : ℕ) → ¬ (i ≡ 0) → from + (i - 1) ≡ last_before last from i
-one-before last from zero n = absurd (n refl)
-one-before last from (suc i) n = omega arith
+pub one_before : (last from i : ℕ) → ¬ (i ≡ 0) → from + (i - 1) ≡ last_before last from i
+one_before last from zero n = absurd (n refl)
+one_before last from (suc i) n = omega arith
 
 pub next_last : (last from i : ℕ) → last_before last from (i + 1) ≡ from + i
 next_last last from i = rw (add-one i)
@@ -148,11 +148,11 @@ Left list₀ from all list p es =
     (from + 16 * length all ≡ p + 16 * length es) × (sets list₀ from (bytes_of (entries_of all)) ≡ sets list p (bytes_of (entries_of es)))
 
 -- one more is laid, or none
-pub one-laid :
+pub one_laid :
     (list₀ : List ℕ) (from : ℕ) (all : List Shift) (list : List ℕ) (p : ℕ) (b : Bool) (e : Shift) (es : List Shift) (list' : List ℕ) (p' : ℕ)
     → p' ≡ p + 16 * length (with b e []) → list' ≡ sets list p (bytes_of (entries_of (with b e []))) → Left list₀ from all list p (with b e es)
     → Left list₀ from all list' p' es
-one-laid list₀ from all list p b e es list' p' ep el h =
+one_laid list₀ from all list p b e es list' p' ep el h =
     let long = with-length b e es in (
       omega (arith, h.0, long, ep),
       h.1
@@ -173,8 +173,8 @@ pub at_most_one : (b : Bool) → cond {A = ℕ} b 1 0 ≤ 1
 at_most_one true = omega arith
 at_most_one false = omega arith
 
-no-more-open : (p q : ℕ) (e : Shift) → length (with (closes p q) e []) + open_at q ≤ 1 + open_at p
-no-more-open p q e =
+no_more_open : (p q : ℕ) (e : Shift) → length (with (closes p q) e []) + open_at q ≤ 1 + open_at p
+no_more_open p q e =
     case (leb 22 q)
     (λ h.
     let big = leb-true 22 q h in
@@ -190,27 +190,27 @@ laid-at-most w i (c ∷ cs) =
     let v = walked_by w i c.code c.amount in
     let rest = laid_by v (suc i) cs in
     let h = laid-at-most v (suc i) cs in
-    let k = no-more-open w.phase v.phase (in_hand v) in
+    let k = no_more_open w.phase v.phase (in_hand v) in
     let e = with-length (closes w.phase v.phase) (in_hand v) rest in
     omega (arith, h, k, e)
 
-pub codes-long : (l : List ℕ) → length (coded_in l) ≡ length l / 4
-codes-long [] = refl
-codes-long (a ∷ []) = refl
-codes-long (a ∷ b ∷ []) = refl
-codes-long (a ∷ b ∷ c ∷ []) = refl
-codes-long (a ∷ b ∷ c ∷ d ∷ l) = let h = codes-long l in omega arith
+pub codes_long : (l : List ℕ) → length (coded_in l) ≡ length l / 4
+codes_long [] = refl
+codes_long (a ∷ []) = refl
+codes_long (a ∷ b ∷ []) = refl
+codes_long (a ∷ b ∷ c ∷ []) = refl
+codes_long (a ∷ b ∷ c ∷ d ∷ l) = let h = codes_long l in omega arith
 
 -- ---- a request by its code
-pub request-made :
+pub request_made :
     (code : ℕ) (w : Walk) (i : ℕ) (b : Bool) (t : Trace) → is_request code ≡ true
     → holding t.clock t.phase i i code 0 w.clock ≡ further (kind_by code) w i b t
-request-made zero w i b t e = absurd (subst T (sym e) tt)
-request-made (suc k) w i b t e =
+request_made zero w i b t e = absurd (subst T (sym e) tt)
+request_made (suc k) w i b t e =
     rw (passed (leb (suc k) 3) (right (leb 1 (suc k)) (leb (suc k) 3) (passes (is_request (suc k)) e)))
 
-pub no-request : (code : ℕ) → is_request code ≡ false → kind_by code ≡ 0
-no-request code e =
+pub no_request : (code : ℕ) → is_request code ≡ false → kind_by code ≡ 0
+no_request code e =
     case (leb code 3)
     (λ h.
     case (leb 1 code)

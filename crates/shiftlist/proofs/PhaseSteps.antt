@@ -5,7 +5,7 @@ use borrow.Author.Tests.{lt-leb, eqb-false}
 use Rattle.checks.proofs.Tests.{passed, left, right, case}
 use Rattle.checks.proofs.Ranges.{from}
 use Rattle.phases.specs.Phases.{next_of, clutch_of, unfinished, engine}
-use Rattle.phases.proofs.PhaseLaws.{unfinished-in, next-listed, clutch-listed}
+use Rattle.phases.proofs.PhaseLaws.{unfinished_in, next-listed, clutch_listed}
 use Rattle.shift.specs.declared.Step.{Step}
 use Rattle.shift.specs.declared.Step.TheVariants.{FromNeutral, GearToGear, ToNeutral, Deliver, DeviceGood, DeviceFailed, EngineWaits, Take, AskClutch, RaiseError, Finish, Tick, Reset}
 use Rattle.shift.specs.declared.Reading.TheVariants.{Means}
@@ -27,7 +27,7 @@ both e f = rw (e, f)
 -- from an unfinished phase
 pub moved : (p q : ℕ) → T (unfinished p) → 1 ≤ q → q ≤ 23 → Moves 0 p q
 moved p q u l h =
-    let i = unfinished-in p u in
+    let i = unfinished_in p u in
     case (leb q 21)
     (λ e.
     let k = leb-true q 21 e in
@@ -44,14 +44,14 @@ moved p q u l h =
 next-from : (p : ℕ) → 1 ≤ p → p < 22 → 1 ≤ next_of p
 next-from = from _ 1 21 (omega arith)
 
-clutch-from : (p : ℕ) → 1 ≤ p → p < 22 → T (engine p) → 1 ≤ clutch_of p
-clutch-from = from (λ p. T (engine p) → 1 ≤ clutch_of p) 1 21 (omega arith)
+clutch_from : (p : ℕ) → 1 ≤ p → p < 22 → T (engine p) → 1 ≤ clutch_of p
+clutch_from = from (λ p. T (engine p) → 1 ≤ clutch_of p) 1 21 (omega arith)
 
 -- a tick, in any phase
 waits : (p : ℕ) → Moves 0 p p
 waits p =
     case (unfinished p)
-    (λ u. let i = unfinished-in p (rw u tt) in moved p p (rw u tt) i.0 (omega arith))
+    (λ u. let i = unfinished_in p (rw u tt) in moved p p (rw u tt) i.0 (omega arith))
     (λ u.
     let c : closes p p ≡ false = case (leb p 21) (λ e. let l = leb-true p 21 e in rw (e, lt-leb 22 p (omega arith))) (λ e. rw e) in
     rests refl u u c)
@@ -64,18 +64,18 @@ pub moves : (t : Trace) (x : Step) → T (allowed_in t.phase x) → Moves (kind_
 moves t FromNeutral h = asked 0 t.phase 1 (passed (eqb t.phase 0) h) refl refl refl
 moves t GearToGear h = asked 1 t.phase 6 (passed (eqb t.phase 0) h) refl refl refl
 moves t ToNeutral h = asked 2 t.phase 17 (passed (eqb t.phase 0) h) refl refl refl
-moves t Deliver h = let i = unfinished-in t.phase h in moved t.phase t.phase h i.0 (omega arith)
-moves t DeviceGood h = let i = unfinished-in t.phase h in moved t.phase t.phase h i.0 (omega arith)
-moves t DeviceFailed h = let i = unfinished-in t.phase h in moved t.phase t.phase h i.0 (omega arith)
-moves t EngineWaits h = let i = unfinished-in t.phase h in moved t.phase t.phase h i.0 (omega arith)
+moves t Deliver h = let i = unfinished_in t.phase h in moved t.phase t.phase h i.0 (omega arith)
+moves t DeviceGood h = let i = unfinished_in t.phase h in moved t.phase t.phase h i.0 (omega arith)
+moves t DeviceFailed h = let i = unfinished_in t.phase h in moved t.phase t.phase h i.0 (omega arith)
+moves t EngineWaits h = let i = unfinished_in t.phase h in moved t.phase t.phase h i.0 (omega arith)
 moves t Take h =
-    let i = unfinished-in t.phase h in
+    let i = unfinished_in t.phase h in
     moved t.phase (next_of t.phase) h (next-from t.phase i.0 (omega arith)) (next-listed t.phase (omega arith))
 moves t AskClutch h =
     let p = t.phase in
     let u = left (unfinished p) (engine p) h in
-    let i = unfinished-in p u in
-    moved p (clutch_of p) u (clutch-from p i.0 (omega arith) (right (unfinished p) (engine p) h)) (clutch-listed p (omega arith))
+    let i = unfinished_in p u in
+    moved p (clutch_of p) u (clutch_from p i.0 (omega arith) (right (unfinished p) (engine p) h)) (clutch_listed p (omega arith))
 moves t RaiseError h = moved t.phase 23 h (omega arith) (omega arith)
 moves t Finish h = let r = eqb-true t.phase 22 (passed (eqb t.phase 22) h) in rests refl (rw r) refl (rw r)
 moves t (Tick n) h = waits t.phase

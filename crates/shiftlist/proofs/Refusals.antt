@@ -12,22 +12,22 @@ use Rattle.stepfile.specs.Files.{readings_of}
 use Rattle.stepfile.specs.Refusals.{bits32}
 use Rattle.verdict.specs.declared.Verdict.{Verdict}
 use Rattle.verdict.specs.Verdicts.{verdict_of}
-use Rattle.verdict.proofs.Refusals.{judge-answers}
+use Rattle.verdict.proofs.Refusals.{judge_answers}
 use Rattle.shiftlist.specs.declared.Listed.{Listed}
 use Rattle.shiftlist.specs.declared.Fetched.{Fetched}
 use Rattle.shiftlist.specs.Lists.{list_of, shifts_of, size_for, refused_by, built_of, buffer_after, shift_at, fetchable, found, fetch_of}
 use Rattle.shiftlist.specs.Refusals.{zeros, Accepted, ListTakes, BuildAnswers, fetch_refusals, BytesSay, FetchAnswers}
-use Rattle.shiftlist.proofs.BuildLaws.{at-judge, at_room, built}
-use Rattle.shiftlist.proofs.EntryLaws.{the-entries}
-use Rattle.shiftlist.proofs.OneList.{no-other-list}
-use Rattle.shiftlist.proofs.build.Reads as build-reads
-use Rattle.shiftlist.proofs.fetch.Reads as fetch-reads
+use Rattle.shiftlist.proofs.BuildLaws.{at_judge, at_room, built}
+use Rattle.shiftlist.proofs.EntryLaws.{the_entries}
+use Rattle.shiftlist.proofs.OneList.{no_other_list}
+use Rattle.shiftlist.proofs.build.Reads as build_reads
+use Rattle.shiftlist.proofs.fetch.Reads as fetch_reads
 
 -- ---- building
 -- the size of a file's list is one, whichever list of the entries it is read from
-pub the-list-takes-one-size : (f : List ℕ) (m n : ℕ) → ListTakes f m → ListTakes f n → m ≡ n
-the-list-takes-one-size f m n x y =
-    let same = ap length (no-other-list start (readings_of f) x.shifts y.shifts zeros x.entries y.entries) in
+pub the_list_takes_one_size : (f : List ℕ) (m n : ℕ) → ListTakes f m → ListTakes f n → m ≡ n
+the_list_takes_one_size f m n x y =
+    let same = ap length (no_other_list start (readings_of f) x.shifts y.shifts zeros x.entries y.entries) in
     omega (arith, x.bytes, y.bytes, same)
 
 module _ (f out : List ℕ) where
@@ -38,44 +38,44 @@ module _ (f out : List ℕ) where
   n = size_for (shifts_of f)
 
   takes : ListTakes f n
-  takes = record { shifts = shifts_of f; entries = the-entries start (readings_of f); bytes = refl }
+  takes = record { shifts = shifts_of f; entries = the_entries start (readings_of f); bytes = refl }
 
-  refused-by-the-judge : ¬ (v.number ≡ 0) → BuildAnswers f out (refused_by v.number v.rule v.index v.excess) out
-  refused-by-the-judge z =
-      let j = judge-answers f in
+  refused_by_the_judge : ¬ (v.number ≡ 0) → BuildAnswers f out (refused_by v.number v.rule v.index v.excess) out
+  refused_by_the_judge z =
+      let j = judge_answers f in
       let most = j.numbers in
       record {
         numbers = inl most;
-        by-judge = λ _. record { state = v.state; answers = j };
+        by_judge = λ _. record { state = v.state; answers = j };
         no_room = λ e. absurd (omega arith);
         built = λ e. absurd (z e);
-        else-0 = ⊎_elim (λ e. absurd (z e)) (λ e. absurd (omega arith));
+        else_0 = ⊎_elim (λ e. absurd (z e)) (λ e. absurd (omega arith));
         unchanged = λ _. (refl, refl);
       }
 
   module _ (z : v.number ≡ 0) where
     accepted : Accepted f
-    accepted = record { verdict = v; answers = judge-answers f; number = z }
+    accepted = record { verdict = v; answers = judge_answers f; number = z }
 
-    refused-for-room : length out < n → BuildAnswers f out (refused_by 15 0 0 0) out
-    refused-for-room h = record {
+    refused_for_room : length out < n → BuildAnswers f out (refused_by 15 0 0 0) out
+    refused_for_room h = record {
       numbers = inr refl;
-      by-judge = λ b. absurd (omega arith);
+      by_judge = λ b. absurd (omega arith);
       no_room = λ _. (accepted, record { size = n; takes = takes; short = h });
       built = λ e. absurd (omega arith);
-      else-0 = λ _. (refl, refl, refl);
+      else_0 = λ _. (refl, refl, refl);
       unchanged = λ _. (refl, refl);
     }
 
-    not-refused :
+    not_refused :
         n ≤ length out
         → BuildAnswers f out (record { number = 0; rule = 0; index = 0; excess = 0; length = n }) (list_of (shifts_of f) ++ drop n out)
-    not-refused h = record {
+    not_refused h = record {
       numbers = inl (omega arith);
-      by-judge = λ b. absurd (omega arith);
+      by_judge = λ b. absurd (omega arith);
       no_room = λ e. absurd (omega arith);
       built = λ _. (accepted, takes, h);
-      else-0 = λ _. (refl, refl, refl);
+      else_0 = λ _. (refl, refl, refl);
       unchanged = λ e. absurd (e refl);
     }
 
@@ -84,8 +84,8 @@ module _ (f out : List ℕ) where
       → BuildAnswers f out (built_of f (length out)) (buffer_after f out)
   carried r b e a = subst (λ q. BuildAnswers f out q (buffer_after f out)) e.0 (subst (BuildAnswers f out r) e.1 a)
 
-  pub build-answers : BuildAnswers f out (built_of f (length out)) (buffer_after f out)
-  build-answers =
+  pub build_answers : BuildAnswers f out (built_of f (length out)) (buffer_after f out)
+  build_answers =
       case (eqb v.number 0)
       (λ t.
       let z = eqb-true v.number 0 t in
@@ -93,19 +93,19 @@ module _ (f out : List ℕ) where
       (λ l.
       let h = leb-true n (length out) l in
       carried (record { number = 0; rule = 0; index = 0; excess = 0; length = n }) (list_of (shifts_of f) ++ drop n out) (built f out z h)
-      (not-refused z h))
-      (λ l. let h = leb-false n (length out) l in carried (refused_by 15 0 0 0) out (at_room f out z h) (refused-for-room z h)))
+      (not_refused z h))
+      (λ l. let h = leb-false n (length out) l in carried (refused_by 15 0 0 0) out (at_room f out z h) (refused_for_room z h)))
       (λ t.
       let z = eqb-false v.number 0 t in
-      carried (refused_by v.number v.rule v.index v.excess) out (at-judge f out v refl z) (refused-by-the-judge z))
+      carried (refused_by v.number v.rule v.index v.excess) out (at_judge f out v refl z) (refused_by_the_judge z))
 
 pub build :
-    (κs : _) (a : _) (r : _) (at : _) → build-reads.Post κs a r at → BuildAnswers a.0.now a.1.0.now r at.1.0.now
-build κs a r at p = rw (p.0, p.1) (build-answers a.0.now a.1.0.now)
+    (κs : _) (a : _) (r : _) (at : _) → build_reads.Post κs a r at → BuildAnswers a.0.now a.1.0.now r at.1.0.now
+build κs a r at p = rw (p.0, p.1) (build_answers a.0.now a.1.0.now)
 
 -- ---- fetching
-pub same-32 : (l : List ℕ) (p : ℕ) → u32_at l p ≡ bits32 l p
-same-32 l p =
+pub same_32 : (l : List ℕ) (p : ℕ) → u32_at l p ≡ bits32 l p
+same_32 l p =
     let e : p + 2 + 1 ≡ p + 3 = omega arith in
     let b = ap (λ k. get_or l k 0) e in
     omega arith
@@ -124,8 +124,8 @@ module _ (l : List ℕ) (i : ℕ) where
     kind = refl;
     route = refl;
     end = refl;
-    time = same-32 l (p + 8);
-    age = same-32 l (p + 12);
+    time = same_32 l (p + 8);
+    age = same_32 l (p + 12);
   }
 
   abbrev Answers : Fetched → Type 0
@@ -145,9 +145,9 @@ module _ (l : List ℕ) (i : ℕ) where
     entry = λ z. absurd (omega arith);
   }
 
-  pub fetch-answers : FetchAnswers l i (fetch_of l i).number (fetch_of l i).shift
-  fetch-answers = answers_by number in_order
+  pub fetch_answers : FetchAnswers l i (fetch_of l i).number (fetch_of l i).shift
+  fetch_answers = answers_by number in_order
 
 pub fetch :
-    (κs : _) (a : _) (r : _) (at : _) → fetch-reads.Post κs a r at → FetchAnswers a.0.now a.1.0 r.number r.shift
-fetch κs a r at p = rw p (fetch-answers a.0.now a.1.0)
+    (κs : _) (a : _) (r : _) (at : _) → fetch_reads.Post κs a r at → FetchAnswers a.0.now a.1.0 r.number r.shift
+fetch κs a r at p = rw p (fetch_answers a.0.now a.1.0)

@@ -10,11 +10,11 @@ use Rattle.shiftlist.specs.Lists.{numbers_of, entries_of}
 use Rattle.shiftlist.specs.Walks.{with}
 
 -- the numbers of an entry, one after the other
-pub numbers-stored :
+pub numbers_stored :
     (l : List ℕ) (p a b c d e f : ℕ)
     → sets (sets (sets (sets (sets (sets l p (bytes_of (a ∷ []))) (p + 2) (bytes_of (b ∷ []))) (p + 4) (bytes_of (c ∷ []))) (p + 6) (bytes_of (d ∷ []))) (p + 8) (bytes_of (halves e []))) (p + 12) (bytes_of (halves f []))
     ≡ sets l p (bytes_of (a ∷ b ∷ c ∷ d ∷ halves e (halves f [])))
-numbers-stored l p a b c d e f =
+numbers_stored l p a b c d e f =
     let l1 = sets l p (bytes_of (a ∷ [])) in
     let l2 = sets l1 (p + 2) (bytes_of (b ∷ [])) in
     let l3 = sets l2 (p + 4) (bytes_of (c ∷ [])) in
@@ -46,9 +46,9 @@ never true b e = e
 never false b e = refl
 
 -- stored in a part, which is put back
-pub part-stored :
+pub part_stored :
     (l vs : List ℕ) (a e : ℕ) → a + length vs ≡ e → e ≤ length l → put_mid a (e - a) l (sets (mid_of a (e - a) l) 0 vs) ≡ sets l a vs
-part-stored l vs a e h r =
+part_stored l vs a e h r =
     let long : length (mid_of a (e - a) l) ≡ length vs = mid_len a e l r ∙ omega (arith, h) in
     let none : drop (length vs) (mid_of a (e - a) l) ≡ [] = drop_of_length-le (mid_of a (e - a) l) {i = length vs} (omega (arith, long)) in
     let all : sets (mid_of a (e - a) l) 0 vs ≡ vs = at-start (mid_of a (e - a) l) vs (length vs) refl (omega (arith, long)) ∙ ap (λ b. vs ++ b) none ∙ append-nil vs in

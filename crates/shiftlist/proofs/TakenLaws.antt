@@ -7,7 +7,7 @@ use Rattle.shift.specs.Answers.{led}
 use Rattle.shiftlist.specs.declared.Shift.{Shift}
 use Rattle.shiftlist.specs.Shifts.{asks, end_of, grown, unless_ended, whole}
 use Rattle.shiftlist.specs.Entries.{before}
-use Rattle.shiftlist.proofs.RequestLaws.{clock-goes-on, asked}
+use Rattle.shiftlist.proofs.RequestLaws.{clock_goes_on, asked}
 
 -- the entry e with n of the records rs, the first of which is the record i, made in the state s
 pub record Taken (e : Shift) (i : ℕ) (s : State) (rs : List Reading) (w : Shift) : Type 0 where
@@ -23,11 +23,11 @@ pub record Taken (e : Shift) (i : ℕ) (s : State) (rs : List Reading) (w : Shif
   pub route : w.route ≡ cond (asked (take n rs)) 1 e.route
   pub age : e.request_time + w.age ≡ (before s rs n).clock
 
-or-cond : (a b : Bool) (n : ℕ) → cond a 1 (cond b 1 n) ≡ cond (b || a) 1 n
-or-cond true true n = refl
-or-cond true false n = refl
-or-cond false true n = refl
-or-cond false false n = refl
+or_cond : (a b : Bool) (n : ℕ) → cond a 1 (cond b 1 n) ≡ cond (b || a) 1 n
+or_cond true true n = refl
+or_cond true false n = refl
+or_cond false true n = refl
+or_cond false false n = refl
 
 module _ (e : Shift) (i : ℕ) (s : State) (r : Reading) (rs : List Reading) (o : end_of s.phase ≡ 0) where
   abbrev next : State
@@ -58,7 +58,7 @@ module _ (e : Shift) (i : ℕ) (s : State) (r : Reading) (rs : List Reading) (o 
         not_yet = till g.not_yet;
         end = g.end;
         all = λ q. ap suc (g.all q);
-        route = g.route ∙ or-cond (asked (take g.n rs)) (asks r) e.route;
+        route = g.route ∙ or_cond (asked (take g.n rs)) (asks r) e.route;
         age = g.age;
       }
   one_more (suc k) z a f = record {
@@ -71,7 +71,7 @@ module _ (e : Shift) (i : ℕ) (s : State) (r : Reading) (rs : List Reading) (o 
     not_yet = till (λ j l. absurd (omega arith));
     end = refl;
     all = λ q. absurd (omega (arith, z, q));
-    route = or-cond false (asks r) e.route;
+    route = or_cond false (asks r) e.route;
     age = a;
   }
 
@@ -94,6 +94,6 @@ takes e i s [] l z o a = record {
 takes e i s (r ∷ rs) l z o a =
     let next = led s r in
     let e' = grown e i r next.clock next.phase in
-    let on = clock-goes-on s r in
+    let on = clock_goes_on s r in
     let aged : e.request_time + (next.clock - e.request_time) ≡ next.clock = omega arith in
     one_more e i s r rs o (end_of next.phase) refl aged (λ q. takes e' (suc i) next rs refl q q aged)

@@ -92,35 +92,35 @@ module _ (w : Walk) (i : ℕ) (r : Reading) (t : Trace) (rs : List Reading) wher
       ap (λ n. record { first = i; last = i; kind = suc m; route = 0; end = n; request_time = w.clock; age = t.clock - w.clock }) z
       ∙ ap (λ n. record { first = i; last = i; kind = suc m; route = 0; end = 0; request_time = w.clock; age = n }) aged
 
-  one-step : (k : ℕ) → Moves k p t.phase → (¬ (k ≡ 0) → t.clock ≡ w.clock) → Steps k
-  one-step zero (begins m e u v c z) q = absurd (omega arith)
-  one-step (suc k) (begins m e u v c z) q =
+  one_step : (k : ℕ) → Moves k p t.phase → (¬ (k ≡ 0) → t.clock ≡ w.clock) → Steps k
+  one_step zero (begins m e u v c z) q = absurd (omega arith)
+  one_step (suc k) (begins m e u v c z) q =
       rw (c, v, u) (ap (λ h. whole_on h (suc i) t rs ∷ shifts_on (suc i) t rs) (begun-same k z (q (λ y. omega arith))))
-  one-step zero (goes e u v c z) q = rw (c, v, u) (ap (λ n. unless_ended n (grown (in_hand w) i r t.clock t.phase) (whole_on (grown (in_hand w) i r t.clock t.phase) (suc i) t rs) ∷ shifts_on (suc i) t rs) (sym z))
-  one-step (suc k) (goes e u v c z) q = absurd (omega arith)
-  one-step zero (ends m e u v c z) q = rw (c, v, u) (ap (λ n. unless_ended n (grown (in_hand w) i r t.clock t.phase) (whole_on (grown (in_hand w) i r t.clock t.phase) (suc i) t rs) ∷ shifts_on (suc i) t rs) (sym z))
-  one-step (suc k) (ends m e u v c z) q = absurd (omega arith)
-  one-step zero (rests e u v c) q = rw (c, v, u)
-  one-step (suc k) (rests e u v c) q = absurd (omega arith)
+  one_step zero (goes e u v c z) q = rw (c, v, u) (ap (λ n. unless_ended n (grown (in_hand w) i r t.clock t.phase) (whole_on (grown (in_hand w) i r t.clock t.phase) (suc i) t rs) ∷ shifts_on (suc i) t rs) (sym z))
+  one_step (suc k) (goes e u v c z) q = absurd (omega arith)
+  one_step zero (ends m e u v c z) q = rw (c, v, u) (ap (λ n. unless_ended n (grown (in_hand w) i r t.clock t.phase) (whole_on (grown (in_hand w) i r t.clock t.phase) (suc i) t rs) ∷ shifts_on (suc i) t rs) (sym z))
+  one_step (suc k) (ends m e u v c z) q = absurd (omega arith)
+  one_step zero (rests e u v c) q = rw (c, v, u)
+  one_step (suc k) (rests e u v c) q = absurd (omega arith)
 
-clock-kept : (t : Trace) (x : Step) → ¬ (kind_of (Means x) ≡ 0) → (stepped t x).clock ≡ t.clock
-clock-kept t FromNeutral n = refl
-clock-kept t GearToGear n = refl
-clock-kept t ToNeutral n = refl
-clock-kept t Deliver n = refl
-clock-kept t DeviceGood n = refl
-clock-kept t DeviceFailed n = refl
-clock-kept t EngineWaits n = refl
-clock-kept t Take n = refl
-clock-kept t AskClutch n = refl
-clock-kept t RaiseError n = refl
-clock-kept t Finish n = refl
-clock-kept t (Tick m) n = absurd (n refl)
-clock-kept t Reset n = refl
+clock_kept : (t : Trace) (x : Step) → ¬ (kind_of (Means x) ≡ 0) → (stepped t x).clock ≡ t.clock
+clock_kept t FromNeutral n = refl
+clock_kept t GearToGear n = refl
+clock_kept t ToNeutral n = refl
+clock_kept t Deliver n = refl
+clock_kept t DeviceGood n = refl
+clock_kept t DeviceFailed n = refl
+clock_kept t EngineWaits n = refl
+clock_kept t Take n = refl
+clock_kept t AskClutch n = refl
+clock_kept t RaiseError n = refl
+clock_kept t Finish n = refl
+clock_kept t (Tick m) n = absurd (n refl)
+clock_kept t Reset n = refl
 
-pub same-trace : (k : ℕ) (w : Walk) (i : ℕ) (b : Bool) (t : Trace) → trace_in (further k w i b t) ≡ t
-same-trace zero w i b t = refl
-same-trace (suc k) w i b t = refl
+pub same_trace : (k : ℕ) (w : Walk) (i : ℕ) (b : Bool) (t : Trace) → trace_in (further k w i b t) ≡ t
+same_trace zero w i b t = refl
+same_trace (suc k) w i b t = refl
 
 -- the walk makes what is still to come
 pub makes : (w : Walk) (i : ℕ) (rs : List Reading) → Sound (trace_in w) rs → listed w i rs ≡ to_come w i rs
@@ -129,11 +129,11 @@ makes w i (Means x ∷ rs) h =
     let r = Means x in
     let t = stepped (trace_in w) x in
     let w' = walked w i r in
-    let e = same-trace (kind_of r) w i (asks r) t in
+    let e = same_trace (kind_of r) w i (asks r) t in
     let rest = makes w' (suc i) rs (subst (λ q. Sound q rs) (sym e) h.2) in
     ap (λ (q : Trace). with (closes w.phase q.phase) (in_hand w') (listed w' (suc i) rs)) e
     ∙ ap (with (closes w.phase t.phase) (in_hand w')) rest
-    ∙ one-step w i r t rs (kind_of r) (moves (trace_in w) x h.0) (clock-kept (trace_in w) x)
+    ∙ one_step w i r t rs (kind_of r) (moves (trace_in w) x h.0) (clock_kept (trace_in w) x)
 makes w i (WrongCode ∷ rs) h = absurd h
 makes w i (WrongAmount ∷ rs) h = absurd h
 

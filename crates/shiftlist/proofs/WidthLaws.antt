@@ -8,42 +8,42 @@ use Rattle.shift.specs.declared.Reading.TheVariants.{Means, WrongCode, WrongAmou
 use Rattle.shift.specs.States.{start}
 use Rattle.shift.specs.Answers.{led}
 use Rattle.stepfile.specs.Files.{readings_of}
-use Rattle.stepfile.proofs.RoundTrip.{as-many-records}
+use Rattle.stepfile.proofs.RoundTrip.{as_many_records}
 use Rattle.stepfile.proofs.WholeLaws.{good-file}
 use Rattle.trace.specs.Traces.{Trace, trace_of}
-use Rattle.trace.proofs.TraceLaws.{Sound, projects-step}
+use Rattle.trace.proofs.TraceLaws.{Sound, projects_step}
 use Rattle.verdict.specs.Verdicts.{verdict_of}
 use Rattle.shiftlist.specs.declared.Shift.{Shift}
 use Rattle.shiftlist.specs.Shifts.{kind_of, begun, whole, entry_for, shifts_from}
 use Rattle.shiftlist.specs.Lists.{shifts_of, no_shift}
 use Rattle.shiftlist.specs.Entries.{before, Entry}
-use Rattle.shiftlist.proofs.BuildLaws.{read, file-sound}
+use Rattle.shiftlist.proofs.BuildLaws.{read, file_sound}
 use Rattle.shiftlist.proofs.FetchLaws.{Fits}
-use Rattle.shiftlist.proofs.RequestLaws.{codes-of-requests}
-use Rattle.shiftlist.proofs.EntryLaws.{the-entries}
+use Rattle.shiftlist.proofs.RequestLaws.{codes_of_requests}
+use Rattle.shiftlist.proofs.EntryLaws.{the_entries}
 
 -- ---- the clock stays within 32 bits
-within-32-bits :
+within_32_bits :
     (s : State) (rs : List Reading) → Sound (trace_of s) rs → s.clock ≤ 4294967295 → (j : ℕ)
     → (before s rs j).clock ≤ 4294967295
-within-32-bits s rs h c zero = c
-within-32-bits s [] h c (suc j) = c
-within-32-bits s (Means x ∷ rs) h c (suc j) =
-    let same = sym (projects-step s x) in
-    within-32-bits (led s (Means x)) rs (subst (λ t. Sound t rs) same h.2) (subst (λ (t : Trace). t.clock ≤ 4294967295) same h.1) j
-within-32-bits s (WrongCode ∷ rs) h c (suc j) = absurd h
-within-32-bits s (WrongAmount ∷ rs) h c (suc j) = absurd h
+within_32_bits s rs h c zero = c
+within_32_bits s [] h c (suc j) = c
+within_32_bits s (Means x ∷ rs) h c (suc j) =
+    let same = sym (projects_step s x) in
+    within_32_bits (led s (Means x)) rs (subst (λ t. Sound t rs) same h.2) (subst (λ (t : Trace). t.clock ≤ 4294967295) same h.1) j
+within_32_bits s (WrongCode ∷ rs) h c (suc j) = absurd h
+within_32_bits s (WrongAmount ∷ rs) h c (suc j) = absurd h
 
 -- ---- an entry's fields
 module _ (s : State) (rs : List Reading) (h : Sound (trace_of s) rs) (c : s.clock ≤ 4294967295) (n : length rs ≤ 65535) where
   pub fits : (e : Shift) → Entry s rs e → Fits e
   fits e x =
-      let first = within-32-bits s rs h c e.first in
-      let last = within-32-bits s rs h c (suc e.last) in
+      let first = within_32_bits s rs h c e.first in
+      let last = within_32_bits s rs h c (suc e.last) in
       record {
         first = omega (arith, x.order, x.within);
         last = omega (arith, x.within);
-        kind = omega (arith, codes-of-requests (at rs e.first) e.kind x.request);
+        kind = omega (arith, codes_of_requests (at rs e.first) e.kind x.request);
         route = ⊎_elim (λ y. omega (arith, y.0)) (λ y. omega (arith, y.0)) x.route;
         end = ⊎_elim (λ y. omega (arith, y.0)) (⊎_elim (λ y. omega (arith, y.0)) (λ y. omega (arith, y.0))) x.end;
         time = omega (arith, x.time, first);
@@ -55,22 +55,22 @@ no_longer : (k n : ℕ) (e : Shift) (es : List Shift) → length es ≤ n → le
 no_longer zero n e es h = omega arith
 no_longer (suc k) n e es h = omega arith
 
-pub no-more-than-records : (i : ℕ) (s : State) (rs : List Reading) → length (shifts_from i s rs) ≤ length rs
-no-more-than-records i s [] = omega arith
-no-more-than-records i s (r ∷ rs) =
+pub no_more_than_records : (i : ℕ) (s : State) (rs : List Reading) → length (shifts_from i s rs) ≤ length rs
+no_more_than_records i s [] = omega arith
+no_more_than_records i s (r ∷ rs) =
     no_longer (kind_of r) (length rs) (whole (begun (kind_of r) i s.clock) (suc i) (led s r) rs) (shifts_from (suc i) (led s r) rs)
-    (no-more-than-records (suc i) (led s r) rs)
+    (no_more_than_records (suc i) (led s r) rs)
 
 -- ---- of an accepted file
 module _ (f : List ℕ) (z : (verdict_of f).number ≡ 0) where
-  records-of-a-file : length (readings_of f) ≤ 16372
-  records-of-a-file = omega (arith, as-many-records f (read f z), (good-file f (read f z)).most)
+  records_of_a_file : length (readings_of f) ≤ 16372
+  records_of_a_file = omega (arith, as_many_records f (read f z), (good-file f (read f z)).most)
 
-  pub shifts-of-a-file : length (shifts_of f) ≤ 16372
-  shifts-of-a-file = omega (arith, no-more-than-records 0 start (readings_of f), records-of-a-file)
+  pub shifts_of_a_file : length (shifts_of f) ≤ 16372
+  shifts_of_a_file = omega (arith, no_more_than_records 0 start (readings_of f), records_of_a_file)
 
-  pub entries-of-a-file-fit : (i : ℕ) → i < length (shifts_of f) → Fits (get_or (shifts_of f) i no_shift)
-  entries-of-a-file-fit i h =
-      let few = records-of-a-file in
-      fits start (readings_of f) (file-sound f z) (omega arith) (omega arith) (get_or (shifts_of f) i no_shift)
-      ((the-entries start (readings_of f)).each i h)
+  pub entries_of_a_file_fit : (i : ℕ) → i < length (shifts_of f) → Fits (get_or (shifts_of f) i no_shift)
+  entries_of_a_file_fit i h =
+      let few = records_of_a_file in
+      fits start (readings_of f) (file_sound f z) (omega arith) (omega arith) (get_or (shifts_of f) i no_shift)
+      ((the_entries start (readings_of f)).each i h)

@@ -46,7 +46,7 @@ module _ (s : State) (rs : List Reading) where
     pub request : RequestOf (at rs e.first) e.kind
     pub order : e.first ≤ e.last
     pub within : e.last < length rs
-    pub open-till-then : (j : ℕ) → e.first ≤ j → j < e.last → ¬ Over j
+    pub open_till_then : (j : ℕ) → e.first ≤ j → j < e.last → ¬ Over j
     pub end :
         ((e.end ≡ 1) × (phase_after e.last ≡ 22))
         ⊎ (((e.end ≡ 2) × (phase_after e.last ≡ 23)) ⊎ ((e.end ≡ 0) × ¬ Over e.last × (suc e.last ≡ length rs)))
@@ -64,9 +64,9 @@ module _ (s : State) (rs : List Reading) where
 -- and request time.
 pub record Extends (none : Shift) (old new : List Shift) : Type 0 where
   pub longer : length old ≤ length new
-  pub open-last : (i : ℕ) → i < length old → (get_or old i none).end ≡ 0 → suc i ≡ length old
+  pub open_last : (i : ℕ) → i < length old → (get_or old i none).end ≡ 0 → suc i ≡ length old
   pub untouched : (i : ℕ) → i < length old → ¬ ((get_or old i none).end ≡ 0) → slice_index_or new i none ≡ slice_index_or old i none
-  pub gone-on :
+  pub gone_on :
       (i : ℕ) → i < length old
       → ((get_or new i none).first ≡ (get_or old i none).first)
       × ((get_or new i none).kind ≡ (get_or old i none).kind)

@@ -44,10 +44,10 @@ pub record NoRoom (f out : List ℕ) : Type 0 where
 -- what building answers, and the buffer after it: the file's own refusals first, then 15
 pub record BuildAnswers (f out : List ℕ) (r : Listed) (after : List ℕ) : Type 0 where
   pub numbers : (r.number ≤ 13) ⊎ (r.number ≡ 15)
-  pub by-judge : (1 ≤ r.number) × (r.number ≤ 13) → RefusedByJudge f r.number r.rule r.index r.excess
+  pub by_judge : (1 ≤ r.number) × (r.number ≤ 13) → RefusedByJudge f r.number r.rule r.index r.excess
   pub no_room : r.number ≡ 15 → Accepted f × NoRoom f out
   pub built : r.number ≡ 0 → Accepted f × ListTakes f r.length × (r.length ≤ length out)
-  pub else-0 : (r.number ≡ 0) ⊎ (r.number ≡ 15) → (r.rule ≡ 0) × (r.index ≡ 0) × (r.excess ≡ 0)
+  pub else_0 : (r.number ≡ 0) ⊎ (r.number ≡ 15) → (r.rule ≡ 0) × (r.index ≡ 0) × (r.excess ≡ 0)
   pub unchanged : ¬ (r.number ≡ 0) → (r.length ≡ 0) × (after ≡ out)
 
 -- ---- fetching

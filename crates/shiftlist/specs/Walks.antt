@@ -1,5 +1,5 @@
 -- The shifts of records in one walk over their bytes, with one shift in hand: an entry is made where its shift ends, and at the end. For
--- functions inside; `laid-is-the-list` of proofs/BuildLaws.antt ties it to Shifts.antt, where the records are accepted.
+-- functions inside; `laid_is_the_list` of proofs/BuildLaws.antt ties it to Shifts.antt, where the records are accepted.
 -- Assumes nothing.
 use Rattle.std.specs.Prelude.{ℕ, zero, suc, ◌+◌, ◌-◌, ◌*◌, ◌/◌, ◌%◌, Bool, true, false, cond, ◌&&◌, List, [], ◌∷◌, length, ◌==◌, nat_le}
 use Rattle.std.proofs.lemmas.List.Edits.{sets}

@@ -16,16 +16,16 @@ use Rattle.shift.specs.Runs.{Outcome, run}
 use Rattle.stepfile.specs.Records.{record_of, records_in}
 use Rattle.stepfile.specs.Files.{record_count, record_offset, table_in, refusal_of, record_bytes, readings_of}
 use Rattle.stepfile.specs.Writing.{most_for}
-use Rattle.stepfile.proofs.WholeLaws.{good-file, no-more-than-written}
+use Rattle.stepfile.proofs.WholeLaws.{good-file, no_more_than_written}
 use Rattle.stepfile.proofs.TableLaws.{records-from}
-use Rattle.stepfile.proofs.RoundTrip.{as-many-records}
+use Rattle.stepfile.proofs.RoundTrip.{as_many_records}
 use Rattle.trace.specs.Traces.{trace_of}
-use Rattle.trace.proofs.TraceLaws.{Sound, accepted-sound}
+use Rattle.trace.proofs.TraceLaws.{Sound, accepted_sound}
 use Rattle.verdict.specs.declared.Verdict.{Verdict}
 use Rattle.verdict.specs.Verdicts.{of_run, verdict_of}
 use Rattle.verdict.proofs.Judging.{read-verdict}
-use Rattle.verdict.proofs.Verdicts.{read-files, accepted-files}
-use Rattle.shiftlist.proofs.BuildLaws.{read, all-accepted}
+use Rattle.verdict.proofs.Verdicts.{read_files, accepted_files}
+use Rattle.shiftlist.proofs.BuildLaws.{read, all_accepted}
 
 -- The file f is accepted. The file g is good, its table is that of f, and its records are those of f and then these bytes.
 pub record Appended (f g bytes : List ℕ) : Type 0 where
@@ -45,8 +45,8 @@ records-append (suc n) (a ∷ b ∷ c ∷ d ∷ l) m e = ap (λ rs. record_of a 
 
 -- of a good file
 module _ (f : List ℕ) (z : (refusal_of f).number ≡ 0) where
-  bytes-long : length (record_bytes f) ≡ 4 * record_count f
-  bytes-long =
+  bytes_long : length (record_bytes f) ≡ 4 * record_count f
+  bytes_long =
       let g = good-file f z in
       let there = ap length (records-from f z (omega (arith, g.whole))) ∙ length-drop (record_offset f) f in
       omega (arith, there, g.whole, g.follow)
@@ -61,23 +61,23 @@ module _ (f g bytes : List ℕ) (a : Appended f g bytes) where
   abbrev pub count : ℕ
   count = (verdict_of f).index
 
-  pub count-is : count ≡ length (readings_of f)
-  count-is = accepted-files f good-f a.accepted ∙ sym (as-many-records f good-f)
+  pub count_is : count ≡ length (readings_of f)
+  count_is = accepted_files f good-f a.accepted ∙ sym (as_many_records f good-f)
 
-  pub state-is : state ≡ leads start (readings_of f)
-  state-is =
-      let x = read-files f good-f in
+  pub state_is : state ≡ leads start (readings_of f)
+  state_is =
+      let x = read_files f good-f in
       x.state ∙ ap (λ k. leads start (take k (readings_of f))) (x.accepted a.accepted) ∙ ap (leads start) (take-length (readings_of f))
 
   -- the records of g, and how many there are
-  pub readings-are : readings_of g ≡ readings_of f ++ records_in bytes
-  readings-are = ap records_in a.records ∙ records-append (record_count f) (record_bytes f) bytes (bytes-long f good-f)
+  pub readings_are : readings_of g ≡ readings_of f ++ records_in bytes
+  readings_are = ap records_in a.records ∙ records-append (record_count f) (record_bytes f) bytes (bytes_long f good-f)
 
-  pub few-records : count + length bytes / 4 ≤ most_for (table_in f)
-  few-records =
-      let all = sym (bytes-long g a.good) ∙ ap length a.records ∙ length-append (record_bytes f) bytes in
+  pub few_records : count + length bytes / 4 ≤ most_for (table_in f)
+  few_records =
+      let all = sym (bytes_long g a.good) ∙ ap length a.records ∙ length-append (record_bytes f) bytes in
       let most = ap most_for a.table in
-      omega (arith, all, bytes-long f good-f, no-more-than-written g a.good, most, accepted-files f good-f a.accepted)
+      omega (arith, all, bytes_long f good-f, no_more_than_written g a.good, most, accepted_files f good-f a.accepted)
 
   pub admitted : broken_rule (table_in f) ≡ 0
   admitted = (good-file f good-f).admitted
@@ -94,14 +94,14 @@ module _ (f g bytes : List ℕ) (a : Appended f g bytes) where
       let o = run (table_in f) start (readings_of f) in
       let v = read-verdict f good-f in
       pieces (table_in f) start (readings_of f) (records_in bytes)
-      ∙ goes_on o (all-accepted f a.accepted) (ap (λ (q : Verdict). q.index) v) (ap (λ (q : Verdict). q.state) v)
+      ∙ goes_on o (all_accepted f a.accepted) (ap (λ (q : Verdict). q.index) v) (ap (λ (q : Verdict). q.state) v)
 
-  pub verdict-is : verdict_of g ≡ record { number = further.number; rule = 0; index = count + further.count; excess = further.excess; state = further.state }
-  verdict-is =
+  pub verdict_is : verdict_of g ≡ record { number = further.number; rule = 0; index = count + further.count; excess = further.excess; state = further.state }
+  verdict_is =
       sym (read-verdict g a.good)
       ∙ ap (λ (t : Table). of_run (run t start (readings_of g))) a.table
-      ∙ ap (λ rs. of_run (run (table_in f) start rs)) readings-are
+      ∙ ap (λ rs. of_run (run (table_in f) start rs)) readings_are
       ∙ ap of_run run_is
 
   pub all_sound : further.number ≡ 0 → Sound (trace_of start) (readings_of f ++ records_in bytes)
-  all_sound z = accepted-sound (table_in f) start (readings_of f ++ records_in bytes) (omega arith) (ap (λ (o : Outcome). o.number) run_is ∙ z)
+  all_sound z = accepted_sound (table_in f) start (readings_of f ++ records_in bytes) (omega arith) (ap (λ (o : Outcome). o.number) run_is ∙ z)

@@ -15,16 +15,16 @@ use Rattle.limits.specs.declared.Table.{Table}
 use Rattle.limits.specs.Rules.{broken_rule}
 use Rattle.numbers.specs.Bytes.{u32_at, bytes_of}
 use Rattle.phases.specs.Phases.{unfinished}
-use Rattle.phases.proofs.PhaseLaws.{unfinished-in}
-use Rattle.promises.proofs.Promises.{accepted-up-to-the-first-forbidden-step}
+use Rattle.phases.proofs.PhaseLaws.{unfinished_in}
+use Rattle.promises.proofs.Promises.{accepted_up_to_the_first_forbidden_step}
 use Rattle.shift.specs.declared.State.{State}
 use Rattle.shift.specs.declared.Reading.{Reading}
 use Rattle.shift.specs.Runs.{Outcome, run}
 use Rattle.stepfile.specs.Records.{records_in}
 use Rattle.stepfile.specs.Writing.{entries_for, most_for}
-use Rattle.stepfile.proofs.EntryLaws.{most-between}
+use Rattle.stepfile.proofs.EntryLaws.{most_between}
 use Rattle.trace.specs.Traces.{Trace, trace_of}
-use Rattle.trace.proofs.TraceLaws.{Sound, accepted-sound}
+use Rattle.trace.proofs.TraceLaws.{Sound, accepted_sound}
 use Rattle.shiftlist.specs.declared.Shift.{Shift}
 use Rattle.shiftlist.specs.declared.walk.Walk.{Walk}
 use Rattle.shiftlist.specs.declared.Listed.{Listed}
@@ -32,20 +32,20 @@ use Rattle.shiftlist.specs.Shifts.{end_of, whole}
 use Rattle.shiftlist.specs.Lists.{entries_of, header_of, listed_long, refused_by, fitting}
 use Rattle.shiftlist.specs.Walks.{coded_in, holding, trace_in, in_hand, with, laid_by, size_with, laid_size, laid_in}
 use Rattle.shiftlist.proofs.WalkLaws.{whole_on, shifts_on, whole_same, shifts-same, makes}
-use Rattle.shiftlist.proofs.CodeLaws.{laid-as-listed}
+use Rattle.shiftlist.proofs.CodeLaws.{laid_as_listed}
 use Rattle.shiftlist.proofs.LaidLaws as kernel
 use Rattle.shiftlist_extend.specs.Extending.{laid_on, grounds_by, grounds, last_entry, laid, from, size, after_run, after_grounds, extended_of, list_after}
 use Rattle.shiftlist_extend.specs.Resuming.{place_of, resumed_on}
-use Rattle.shiftlist_extend.proofs.GroundLaws.{Grounded, grounded, its-end, its-age, in_place}
+use Rattle.shiftlist_extend.proofs.GroundLaws.{Grounded, grounded, its_end, its_age, in_place}
 
 -- ---- the walk that is resumed
-same-trace : (b : Bool) (s : State) (e : Shift) → unfinished s.phase ≡ b → trace_in (resumed_on s e) ≡ trace_of s
-same-trace true s e u = rw u
-same-trace false s e u = rw u
+same_trace : (b : Bool) (s : State) (e : Shift) → unfinished s.phase ≡ b → trace_in (resumed_on s e) ≡ trace_of s
+same_trace true s e u = rw u
+same_trace false s e u = rw u
 
 -- in the midst of a shift no shift is over
 pub still_open : (p : ℕ) → T (unfinished p) → end_of p ≡ 0
-still_open p u = let i = unfinished-in p u in rw (ne_eqb p 22 (λ e. omega arith), ne_eqb p 23 (λ e. omega arith))
+still_open p u = let i = unfinished_in p u in rw (ne_eqb p 22 (λ e. omega arith), ne_eqb p 23 (λ e. omega arith))
 
 held-entry : (s : State) (e : Shift) → unfinished s.phase ≡ true → e.end ≡ 0 → e.age ≡ s.clock - e.request_time → in_hand (resumed_on s e) ≡ e
 held-entry s e u z a =
@@ -68,7 +68,7 @@ module _ (s : State) (e : Shift) (count : ℕ) (bytes : List ℕ) (h : Sound (tr
   rs = records_in bytes
 
   trace : trace_in w ≡ trace_of s
-  trace = same-trace (unfinished s.phase) s e refl
+  trace = same_trace (unfinished s.phase) s e refl
 
   sound : Sound (trace_in w) rs
   sound = subst (λ t. Sound t rs) (sym trace) h
@@ -76,13 +76,13 @@ module _ (s : State) (e : Shift) (count : ℕ) (bytes : List ℕ) (h : Sound (tr
   abbrev walks : Trace → List Shift
   walks t = with (unfinished t.phase) (whole_on (in_hand w) count t rs) (shifts_on count t rs)
 
-  walks-so : laid_by w count (coded_in bytes) ≡ walks (trace_of s)
-  walks-so = laid-as-listed w count bytes sound ∙ makes w count rs sound ∙ ap walks trace
+  walks_so : laid_by w count (coded_in bytes) ≡ walks (trace_of s)
+  walks_so = laid_as_listed w count bytes sound ∙ makes w count rs sound ∙ ap walks trace
 
   pub laid_same :
       (unfinished s.phase ≡ true → (e.end ≡ 0) × (e.age ≡ s.clock - e.request_time))
       → laid_by w count (coded_in bytes) ≡ laid_on (unfinished s.phase) e count s rs
-  laid_same f = walks-so ∙ by (unfinished s.phase) refl
+  laid_same f = walks_so ∙ by (unfinished s.phase) refl
     where
       by : (b : Bool) → unfinished s.phase ≡ b → with b (whole_on (in_hand w) count (trace_of s) rs) (shifts_on count (trace_of s) rs) ≡ laid_on b e count s rs
       by true u =
@@ -93,17 +93,17 @@ module _ (s : State) (e : Shift) (count : ℕ) (bytes : List ℕ) (h : Sound (tr
       by false u = sym (shifts-same count s rs)
 
 -- ---- a refused record is one of the records
-records-less : (l : List ℕ) → 4 * length (records_in l) ≤ length l
-records-less [] = omega arith
-records-less (a ∷ []) = omega arith
-records-less (a ∷ b ∷ []) = omega arith
-records-less (a ∷ b ∷ c ∷ []) = omega arith
-records-less (a ∷ b ∷ c ∷ d ∷ l) = let h = records-less l in omega arith
+records_less : (l : List ℕ) → 4 * length (records_in l) ≤ length l
+records_less [] = omega arith
+records_less (a ∷ []) = omega arith
+records_less (a ∷ b ∷ []) = omega arith
+records_less (a ∷ b ∷ c ∷ []) = omega arith
+records_less (a ∷ b ∷ c ∷ d ∷ l) = let h = records_less l in omega arith
 
-pub index-small : (t : Table) (s : State) (l : List ℕ) → ¬ ((run t s (records_in l)).number ≡ 0) → (run t s (records_in l)).count ≤ length l
-index-small t s l n =
-    let h = ((accepted-up-to-the-first-forbidden-step t s (records_in l)).refused n).0 in
-    let k = records-less l in
+pub index_small : (t : Table) (s : State) (l : List ℕ) → ¬ ((run t s (records_in l)).number ≡ 0) → (run t s (records_in l)).count ≤ length l
+index_small t s l n =
+    let h = ((accepted_up_to_the_first_forbidden_step t s (records_in l)).refused n).0 in
+    let k = records_less l in
     omega (arith, h, k)
 
 -- ---- the answer, and the buffer after it
@@ -128,13 +128,13 @@ module _ (l : List ℕ) (held : ℕ) (s : State) (count : ℕ) (t : Table) (byte
   ground_for most rule =
       first (grounds_by (length l) held (u32_at l 4) (u32_at l 0) (last_entry l held s count t bytes) s count (length bytes / 4) most rule)
 
-  pub by-rule :
+  pub by_rule :
       (rule most k : ℕ) → rule ≡ broken_rule t → most ≡ most_for t → k ≡ ground_for most rule
       → k ≡ first (grounds l held s count t bytes)
-  by-rule rule most k e m h = h ∙ ap (ground_for most) e ∙ ap (λ n. ground_for n (broken_rule t)) m
+  by_rule rule most k e m h = h ∙ ap (ground_for most) e ∙ ap (λ n. ground_for n (broken_rule t)) m
 
-  pub at-ground : (k : ℕ) → k ≡ first (grounds l held s count t bytes) → ¬ (k ≡ 0) → Leaves (refused_by k (cond (eqb k 4) (broken_rule t) 0) 0 0) l
-  at-ground k e m =
+  pub at_ground : (k : ℕ) → k ≡ first (grounds l held s count t bytes) → ¬ (k ≡ 0) → Leaves (refused_by k (cond (eqb k 4) (broken_rule t) 0) 0 0) l
+  at_ground k e m =
       let by = refused_by k (cond (eqb k 4) (broken_rule t) 0) 0 0 in
       kept by m (ap (λ b. cond b (after_run l held s count t bytes (run t s (records_in bytes))) by) (sym (ne_eqb k 0 m)) ∙ ap (after_grounds l held s count t bytes) e)
 
@@ -145,7 +145,7 @@ module _ (l : List ℕ) (held : ℕ) (s : State) (count : ℕ) (t : Table) (byte
     pub told : Grounded (length l) held (u32_at l 0) (last_entry l held s count t bytes) s count (length bytes / 4)
     told =
         grounded (length l) held (u32_at l 4) (u32_at l 0) (last_entry l held s count t bytes) s count (length bytes / 4)
-        (most_for t) (broken_rule t) (most-between (length (entries_for t))).1 g
+        (most_for t) (broken_rule t) (most_between (length (entries_for t))).1 g
 
     pub at-run : (o : Outcome) → o ≡ run t s (records_in bytes) → ¬ (o.number ≡ 0) → Leaves (refused_by o.number 0 (count + o.count) o.excess) l
     at-run o e m =
@@ -153,40 +153,40 @@ module _ (l : List ℕ) (held : ℕ) (s : State) (count : ℕ) (t : Table) (byte
         kept by m (ap (λ b. cond b (fitting n (length l)) by) (sym (ne_eqb o.number 0 m)) ∙ ap (after_run l held s count t bytes) e ∙ on)
 
     module _ (z : (run t s (records_in bytes)).number ≡ 0) (c : s.clock ≤ 4294967295) where
-      sound-new : Sound (trace_of s) (records_in bytes)
-      sound-new = accepted-sound t s (records_in bytes) c z
+      sound_new : Sound (trace_of s) (records_in bytes)
+      sound_new = accepted_sound t s (records_in bytes) c z
 
       abbrev walk : Walk
       walk = resumed_on s (last_entry l held s count t bytes)
 
-      is-laid : laid_by walk count (coded_in bytes) ≡ laid l held s count t bytes
-      is-laid =
-          laid_same s (last_entry l held s count t bytes) count bytes sound-new
-          (λ u. (its-end (length l) held (u32_at l 0) (last_entry l held s count t bytes) s count (length bytes / 4) told u, its-age (length l) held (u32_at l 0) (last_entry l held s count t bytes) s count (length bytes / 4) told u))
+      is_laid : laid_by walk count (coded_in bytes) ≡ laid l held s count t bytes
+      is_laid =
+          laid_same s (last_entry l held s count t bytes) count bytes sound_new
+          (λ u. (its_end (length l) held (u32_at l 0) (last_entry l held s count t bytes) s count (length bytes / 4) told u, its_age (length l) held (u32_at l 0) (last_entry l held s count t bytes) s count (length bytes / 4) told u))
 
-      is-size : size_with l (place_of held s) walk count bytes ≡ n
-      is-size = ap (λ es. place_of held s + 16 * length es) is-laid
+      is_size : size_with l (place_of held s) walk count bytes ≡ n
+      is_size = ap (λ es. place_of held s + 16 * length es) is_laid
 
       over : fitting n (length l) ≡ extended_of l held s count t bytes
       over =
           let o = run t s (records_in bytes) in
           ap (λ b. cond b (fitting n (length l)) (refused_by o.number 0 (count + o.count) o.excess)) (sym (eq-eqb o.number 0 z)) ∙ on
 
-      not-laid : length l < size_with l (place_of held s) walk count bytes → Leaves (refused_by 15 0 0 0) l
-      not-laid h =
-          let small : length l < n = omega (arith, h, is-size) in
+      not_laid : length l < size_with l (place_of held s) walk count bytes → Leaves (refused_by 15 0 0 0) l
+      not_laid h =
+          let small : length l < n = omega (arith, h, is_size) in
           kept (refused_by 15 0 0 0) (λ q. omega arith) (ap (λ b. cond b (listed_long n) (refused_by 15 0 0 0)) (sym (lt-leb n (length l) small)) ∙ over)
 
       was-laid :
           size_with l (place_of held s) walk count bytes ≤ length l
           → Leaves (listed_long (size_with l (place_of held s) walk count bytes)) (kernel.laid l (place_of held s) walk count bytes)
       was-laid h =
-          let room : n ≤ length l = omega (arith, h, is-size) in
+          let room : n ≤ length l = omega (arith, h, is_size) in
           let same : listed_long n ≡ extended_of l held s count t bytes = ap (λ b. cond b (listed_long n) (refused_by 15 0 0 0)) (sym (le-leb n (length l) room)) ∙ over in
           let zero-there = eq-eqb (extended_of l held s count t bytes).number 0 (ap (λ (q : Listed). q.number) (sym same)) in (
-            ap listed_long is-size ∙ same,
-            ap (λ k. sets (sets l 0 (bytes_of (header_of ((k - 8) / 16)))) (place_of held s) (bytes_of (entries_of (laid_by walk count (coded_in bytes))))) is-size
-                ∙ ap (λ es. sets (sets l 0 (bytes_of (header_of ((n - 8) / 16)))) (place_of held s) (bytes_of (entries_of es))) is-laid
+            ap listed_long is_size ∙ same,
+            ap (λ k. sets (sets l 0 (bytes_of (header_of ((k - 8) / 16)))) (place_of held s) (bytes_of (entries_of (laid_by walk count (coded_in bytes))))) is_size
+                ∙ ap (λ es. sets (sets l 0 (bytes_of (header_of ((n - 8) / 16)))) (place_of held s) (bytes_of (entries_of es))) is_laid
                 ∙ ap (λ b. cond b stored l) (sym zero-there),
           )
 
@@ -199,10 +199,10 @@ module _ (l : List ℕ) (held : ℕ) (s : State) (count : ℕ) (t : Table) (byte
           let place = in_place (length l) held (u32_at l 0) e s count (length bytes / 4) told in (
             λ q.
                 let k = kernel.none-laid l (place_of held s) walk count bytes told.few place m em q in
-                let a = not-laid k.0 in
+                let a = not_laid k.0 in
                 (a.0, eb ∙ sym k.1 ∙ a.1),
             λ q.
-                let k = kernel.some-laid l (place_of held s) walk count bytes told.few place m em q in
+                let k = kernel.some_laid l (place_of held s) walk count bytes told.few place m em q in
                 let a = was-laid k.0 in
                 (ap listed_long k.1 ∙ a.0, eb ∙ k.2 ∙ a.1),
           )

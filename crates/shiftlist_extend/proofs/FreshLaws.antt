@@ -26,15 +26,15 @@ use Rattle.shiftlist.specs.Shifts.{whole, shifts_from}
 use Rattle.shiftlist.specs.Lists.{list_of, shifts_of, size_for, shift_at, no_shift}
 use Rattle.shiftlist.specs.Walks.{trace_in, in_hand, with}
 use Rattle.shiftlist.proofs.WalkLaws.{whole_on, shifts_on, whole_same, shifts-same, makes}
-use Rattle.shiftlist.proofs.Extended.{sound-pieces, end-trace, grows}
+use Rattle.shiftlist.proofs.Extended.{sound_pieces, end_trace, grows}
 use Rattle.shiftlist.proofs.BuildLaws.{begin}
-use Rattle.shiftlist.proofs.ListLaws.{list-long}
-use Rattle.shiftlist.proofs.WidthLaws.{shifts-of-a-file, entries-of-a-file-fit}
+use Rattle.shiftlist.proofs.ListLaws.{list_long}
+use Rattle.shiftlist.proofs.WidthLaws.{shifts_of_a_file, entries_of_a_file_fit}
 use Rattle.shiftlist_extend.specs.Extending.{is_open, is_over, fits, laid_on, grounds, last_entry, laid, from, size}
-use Rattle.shiftlist_extend.proofs.GroundLaws.{last-ground}
+use Rattle.shiftlist_extend.proofs.GroundLaws.{last_ground}
 use Rattle.shiftlist_extend.proofs.RelaidLaws.{last-read}
-use Rattle.shiftlist_extend.proofs.AppendedLaws.{Appended, count-is, readings-are, few-records, admitted, further, all_sound}
-use Rattle.shiftlist_extend.proofs.EndLaws.{es, rs, s, n, c, z, keeps, es-are, many, one_more, last-is, is_open_lem, is-over}
+use Rattle.shiftlist_extend.proofs.AppendedLaws.{Appended, count_is, readings_are, few_records, admitted, further, all_sound}
+use Rattle.shiftlist_extend.proofs.EndLaws.{es, rs, s, n, c, z, keeps, es_are, many, one_more, last_is, is_open_lem, is_over_lem}
 
 module _ (f g bytes tail : List ℕ) (a : Appended f g bytes) where
   abbrev old : List Shift
@@ -57,7 +57,7 @@ module _ (f g bytes tail : List ℕ) (a : Appended f g bytes) where
   held = size_for old
 
   few : length old ≤ 16372
-  few = shifts-of-a-file f a.accepted
+  few = shifts_of_a_file f a.accepted
 
   -- ---- what is read of it
   count-read : u32_at list 0 ≡ length old
@@ -70,13 +70,13 @@ module _ (f g bytes tail : List ℕ) (a : Appended f g bytes) where
   abbrev pub last : Shift
   last = last_entry list held end records (table_in f) bytes
 
-  last-there : (m : ℕ) → length old ≡ suc m → last ≡ get_or old m no_shift
-  last-there m e =
+  last_there : (m : ℕ) → length old ≡ suc m → last ≡ get_or old m no_shift
+  last_there m e =
       let place : held - 16 ≡ 8 + 16 * m = omega (arith, e) in
-      ap (shift_at list) place ∙ last-read old m tail e (entries-of-a-file-fit f a.accepted m (omega (arith, e)))
+      ap (shift_at list) place ∙ last-read old m tail e (entries_of_a_file_fit f a.accepted m (omega (arith, e)))
 
-  pub open-last : unfinished end.phase ≡ true → last ≡ in_hand (z f g bytes a)
-  open-last u = last-there (length over) (one_more f g bytes a u) ∙ last-is f g bytes a u
+  pub open_last : unfinished end.phase ≡ true → last ≡ in_hand (z f g bytes a)
+  open_last u = last_there (length over) (one_more f g bytes a u) ∙ last_is f g bytes a u
 
   -- ---- nothing refuses it
   fit : fits (length old) last end records ≡ true
@@ -84,20 +84,20 @@ module _ (f g bytes tail : List ℕ) (a : Appended f g bytes) where
       case (unfinished end.phase)
       (λ u.
       rw (u, le-leb 1 (length old) (omega (arith, one_more f g bytes a u)))
-      (ap (λ (e : Shift). is_open e end records) (open-last u) ∙ is_open_lem f g bytes a u))
-      (λ u. rw u (none-or-over u (length old) refl))
+      (ap (λ (e : Shift). is_open e end records) (open_last u) ∙ is_open_lem f g bytes a u))
+      (λ u. rw u (none_or_over u (length old) refl))
     where
-      none-or-over : unfinished end.phase ≡ false → (m : ℕ) → length old ≡ m → eqb m 0 || is_over last records ≡ true
-      none-or-over u zero e = refl
-      none-or-over u (suc m) e =
-          rw (ne_eqb (suc m) 0 (λ q. omega arith)) (ap (λ (q : Shift). is_over q records) (last-there m e) ∙ is-over f g bytes a u m e)
+      none_or_over : unfinished end.phase ≡ false → (m : ℕ) → length old ≡ m → eqb m 0 || is_over last records ≡ true
+      none_or_over u zero e = refl
+      none_or_over u (suc m) e =
+          rw (ne_eqb (suc m) 0 (λ q. omega arith)) (ap (λ (q : Shift). is_over q records) (last_there m e) ∙ is_over_lem f g bytes a u m e)
 
-  pub no-ground : first (grounds list held end records (table_in f) bytes) ≡ 0
-  no-ground =
-      let long = list-long old in
+  pub no_ground : first (grounds list held end records (table_in f) bytes) ≡ 0
+  no_ground =
+      let long = list_long old in
       let all = length-append (list_of old) tail in
-      sym (last-ground (length list) held (u32_at list 4) (u32_at list 0) last end records (length bytes / 4) (most_for (table_in f)) (broken_rule (table_in f)) (omega (arith, long, all)) (omega arith)
-      refl (omega (arith, count-read)) (few-records f g bytes a) (omega (arith, count-read, many f g bytes a)) (admitted f g bytes a) true
+      sym (last_ground (length list) held (u32_at list 4) (u32_at list 0) last end records (length bytes / 4) (most_for (table_in f)) (broken_rule (table_in f)) (omega (arith, long, all)) (omega arith)
+      refl (omega (arith, count-read)) (few_records f g bytes a) (omega (arith, count-read, many f g bytes a)) (admitted f g bytes a) true
       (ap (λ k. fits k last end records) count-read ∙ fit))
 
   -- ---- the entries that are laid
@@ -109,19 +109,19 @@ module _ (f g bytes tail : List ℕ) (a : Appended f g bytes) where
       case (unfinished end.phase)
       (λ u. rw u (omega (arith, one_more f g bytes a u)))
       (λ u.
-      let e = ap length (es-are f g bytes a ∙ ap (λ b. over ++ with b (in_hand (z f g bytes a)) []) u) in
+      let e = ap length (es_are f g bytes a ∙ ap (λ b. over ++ with b (in_hand (z f g bytes a)) []) u) in
       let l = length-append over [] in
       rw u (omega (arith, e, l)))
 
-  pub shifts-are : (further f g bytes a).number ≡ 0 → shifts_of g ≡ over ++ new
-  shifts-are accepted =
+  pub shifts_are : (further f g bytes a).number ≡ 0 → shifts_of g ≡ over ++ new
+  shifts_are accepted =
       let xs = rs f g bytes a in
       let ys = records_in bytes in
       let w = z f g bytes a in
       let h = all_sound f g bytes a accepted in
-      let sound-there = subst (λ t. Sound t ys) (sym (end-trace begin 0 xs)) (sound-pieces (trace_of start) xs ys h).1 in
-      let number : 0 + length xs ≡ records = omega (arith, count-is f g bytes a) in
-      ap (λ q. shifts_from 0 start q) (readings-are f g bytes a)
+      let sound-there = subst (λ t. Sound t ys) (sym (end_trace begin 0 xs)) (sound_pieces (trace_of start) xs ys h).1 in
+      let number : 0 + length xs ≡ records = omega (arith, count_is f g bytes a) in
+      ap (λ q. shifts_from 0 start q) (readings_are f g bytes a)
       ∙ shifts-same 0 start (xs ++ ys)
       ∙ grows 0 (trace_of start) xs ys refl h
       ∙ ap (λ q. over ++ q)
@@ -136,12 +136,12 @@ module _ (f g bytes tail : List ℕ) (a : Appended f g bytes) where
           ≡ laid_on b last records end (records_in bytes)
       by true u =
           let ys = records_in bytes in
-          ap (λ (e : Shift). whole_on e records (trace_of end) ys ∷ shifts_on records (trace_of end) ys) (sym (open-last u))
+          ap (λ (e : Shift). whole_on e records (trace_of end) ys ∷ shifts_on records (trace_of end) ys) (sym (open_last u))
           ∙ ap (λ e. e ∷ shifts_on records (trace_of end) ys) (sym (whole_same last records end ys))
           ∙ ap (λ q. whole last records end ys ∷ q) (sym (shifts-same records end ys))
       by false u = sym (shifts-same records end (records_in bytes))
 
   pub size_is : (further f g bytes a).number ≡ 0 → size list held end records (table_in f) bytes ≡ size_for (shifts_of g)
   size_is accepted =
-      let l = ap length (shifts-are accepted) ∙ length-append over new in
+      let l = ap length (shifts_are accepted) ∙ length-append over new in
       omega (arith, l, place)

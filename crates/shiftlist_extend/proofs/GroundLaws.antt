@@ -19,8 +19,8 @@ use Rattle.shiftlist_extend.specs.Resuming.{place_of}
 module _
     (len held offset shifts : ℕ) (e : Shift) (s : State) (count more most rule : ℕ) (a : held ≤ len) (b : 8 ≤ held) (c : offset ≡ 8)
     (d : held ≡ 8 + 16 * shifts) (f : count + more ≤ most) (g : shifts ≤ count) (h : rule ≡ 0) where
-  pub last-ground : (k : Bool) → fits shifts e s count ≡ k → cond k 0 14 ≡ first (grounds_by len held offset shifts e s count more most rule)
-  last-ground k q =
+  pub last_ground : (k : Bool) → fits shifts e s count ≡ k → cond k 0 14 ≡ first (grounds_by len held offset shifts e s count more most rule)
+  last_ground k q =
       rw (
         le-leb held len a,
         le-leb 8 held b,
@@ -33,11 +33,11 @@ module _
       )
 
   -- by the test of the fit that was made
-  pub by-fit :
+  pub by_fit :
       (shifts' : ℕ) (e' : Shift) (r : Bool) → shifts' ≡ shifts → e' ≡ e → r ≡ fits shifts' e' s count → (k : Bool) → r ≡ k
       → cond k 0 14 ≡ first (grounds_by len held offset shifts e s count more most rule)
-  by-fit shifts' e' r es ee er k q =
-      last-ground k (sym (er ∙ ap (λ m. fits m e' s count) es ∙ ap (λ (x : Shift). fits shifts x s count) ee) ∙ q)
+  by_fit shifts' e' r es ee er k q =
+      last_ground k (sym (er ∙ ap (λ m. fits m e' s count) es ∙ ap (λ (x : Shift). fits shifts x s count) ee) ∙ q)
 
 -- ---- none
 pub record Grounded (len held shifts : ℕ) (e : Shift) (s : State) (count more : ℕ) : Type 0 where
@@ -81,11 +81,11 @@ module _ (len held shifts : ℕ) (e : Shift) (s : State) (count more : ℕ) (g :
     times : T rest
     times = right (eqb (e.last + 1) count) rest later
 
-    pub its-end : e.end ≡ 0
-    its-end = eqb→eq e.end 0 (left (eqb e.end 0) (eqb (e.last + 1) count && rest) its)
+    pub its_end : e.end ≡ 0
+    its_end = eqb→eq e.end 0 (left (eqb e.end 0) (eqb (e.last + 1) count && rest) its)
 
-    pub its-age : e.age ≡ s.clock - e.request_time
-    its-age =
+    pub its_age : e.age ≡ s.clock - e.request_time
+    its_age =
         let t = eqb→eq e.request_time s.request_time (left (eqb e.request_time s.request_time) (eqb e.age (s.clock - s.request_time)) times) in
         let a = eqb→eq e.age (s.clock - s.request_time) (right (eqb e.request_time s.request_time) (eqb e.age (s.clock - s.request_time)) times) in
         omega arith

@@ -10,8 +10,8 @@ use Rattle.numbers.specs.Bytes.{bytes_of}
 use Rattle.numbers.proofs.StoreLaws.{bytes_of-append}
 use Rattle.shiftlist.specs.declared.Shift.{Shift}
 use Rattle.shiftlist.specs.Lists.{entries_of, header_of, list_of, shift_at, no_shift}
-use Rattle.shiftlist.proofs.ListLaws.{entries-long, entries-append}
-use Rattle.shiftlist.proofs.FetchLaws.{Fits, shift-dropped, shift-read}
+use Rattle.shiftlist.proofs.ListLaws.{entries_long, entries-append}
+use Rattle.shiftlist.proofs.FetchLaws.{Fits, shift_dropped, shift_read}
 
 abbrev pub head : ℕ → List ℕ
 head n = bytes_of (header_of n)
@@ -43,8 +43,8 @@ pub relaid :
 relaid m n c x tail e h =
     let bc = bytes_of (entries_of c) in
     let bx = bytes_of (entries_of x) in
-    let lc = entries-long c in
-    let lx = entries-long x in
+    let lc = entries_long c in
+    let lx = entries_long x in
     let stored : sets ((head n ++ bc) ++ tail) (8 + 16 * length c) bx ≡ (head n ++ bc) ++ (bx ++ drop (length bx) tail) =
     behind (head n ++ bc) tail bx (8 + 16 * length c) (omega arith) (omega arith)
     in
@@ -56,10 +56,10 @@ relaid m n c x tail e h =
     ∙ sym (in_two c x (drop (16 * length x) tail))
 
 -- what stands behind the entries that stay
-pub from-there : (m : ℕ) (c : List Shift) (tail : List ℕ) → drop (8 + 16 * length c) (head m ++ (bytes_of (entries_of c) ++ tail)) ≡ tail
-from-there m c tail =
+pub from_there : (m : ℕ) (c : List Shift) (tail : List ℕ) → drop (8 + 16 * length c) (head m ++ (bytes_of (entries_of c) ++ tail)) ≡ tail
+from_there m c tail =
     let bc = bytes_of (entries_of c) in
-    let lc = entries-long c in
+    let lc = entries_long c in
     ap (drop (8 + 16 * length c)) (sym (append_assoc (head m) bc tail)) ∙ drop_at (head m ++ bc) tail (8 + 16 * length c) (omega arith)
 
 -- ---- the last entry
@@ -80,6 +80,6 @@ last-read es m tail e f =
     let there : drop (8 + 16 * m) (list_of es ++ tail) ≡ bytes_of (entries_of x) ++ tail =
     ap (drop (8 + 16 * m)) bytes
     ∙ ap (λ k. drop (8 + 16 * k) (head (length es) ++ (bytes_of (entries_of c) ++ (bytes_of (entries_of x) ++ tail)))) (sym long)
-    ∙ from-there (length es) c (bytes_of (entries_of x) ++ tail)
+    ∙ from_there (length es) c (bytes_of (entries_of x) ++ tail)
     in
-    shift-dropped (list_of es ++ tail) (8 + 16 * m) ∙ ap (λ b. shift_at b 0) there ∙ shift-read (get_or es m no_shift) tail f
+    shift_dropped (list_of es ++ tail) (8 + 16 * m) ∙ ap (λ b. shift_at b 0) there ∙ shift_read (get_or es m no_shift) tail f

@@ -41,7 +41,7 @@ pub record OverEntry (l : List ℕ) (place count : ℕ) : Type 0 where
 
 -- in the midst of a shift there is an entry, and the last is the shift's; else there is none, or the last is over
 pub record Fit (l : List ℕ) (held : ℕ) (s : State) (count : ℕ) : Type 0 where
-  pub in-midst : Midst s → (1 ≤ bits32 l 0) × ItsEntry l (held - 16) s count
+  pub in_midst : Midst s → (1 ≤ bits32 l 0) × ItsEntry l (held - 16) s count
   pub outside : ¬ Midst s → (bits32 l 0 ≡ 0) ⊎ OverEntry l (held - 16) count
 
 -- ---- before the records are judged: 15, 1, 2 and 3 of the list, 2 and 2 of the longer file, 4, 14
@@ -109,13 +109,13 @@ pub record ExtendAnswers (l : List ℕ) (held : ℕ) (s : State) (count : ℕ) (
   pub judged : RecordsAnswer t s bytes records outcome
   pub size : ℕ
   pub takes : LongerTakes l s records size
-  pub by-ground : ¬ (ground ≡ 0) → (r.number ≡ ground) × NoRecord r
-  pub by-judge :
+  pub by_ground : ¬ (ground ≡ 0) → (r.number ≡ ground) × NoRecord r
+  pub by_judge :
       ground ≡ 0 → ¬ (outcome.number ≡ 0)
       → (r.number ≡ outcome.number) × (r.index ≡ count + outcome.count) × (r.excess ≡ outcome.excess)
   pub no_room : ground ≡ 0 → outcome.number ≡ 0 → length l < size → (r.number ≡ 15) × NoRecord r
   pub extended : ground ≡ 0 → outcome.number ≡ 0 → size ≤ length l → (r.number ≡ 0) × NoRecord r × (r.length ≡ size)
-  pub rule-for : RuleFor t r.number r.rule
+  pub rule_for : RuleFor t r.number r.rule
   pub numbers : r.number ≤ 15
   pub unchanged : ¬ (r.number ≡ 0) → (r.length ≡ 0) × (after ≡ l)
   pub keeps : r.number ≡ 0 → Keeps l held s r.length after

@@ -39,21 +39,21 @@ module _ (k : ℕ) where
   pub others : T (not (eqb k 0 || (eqb k 18 || eqb k 22))) → ¬ Few k
   others t f = T_not (eqb k 0 || (eqb k 18 || eqb k 22)) t (fitting f)
 
-  pub at-most-22 : Few k → k ≤ 22
-  at-most-22 (inl e) = omega arith
-  at-most-22 (inr (inl e)) = omega arith
-  at-most-22 (inr (inr e)) = omega arith
+  pub at_most_22 : Few k → k ≤ 22
+  at_most_22 (inl e) = omega arith
+  at_most_22 (inr (inl e)) = omega arith
+  at_most_22 (inr (inr e)) = omega arith
 
   -- ---- the record maximum
-  pub most-between : (16370 ≤ most_records k) × (most_records k ≤ 16372)
-  most-between = case (eqb k 22) (λ e. rw e (omega arith)) (λ e. rw e (omega arith))
+  pub most_between : (16370 ≤ most_records k) × (most_records k ≤ 16372)
+  most_between = case (eqb k 22) (λ e. rw e (omega arith)) (λ e. rw e (omega arith))
 
   pub past-most : (n : ℕ) → most_records k < n → TooMany k n
   past-most n h = case (eqb k 22) (λ e. inr (eqb-true k 22 e, rw e at h)) (λ e. inl (rw e at h))
 
   pub within-most : (n : ℕ) → n ≤ most_records k → ¬ TooMany k n
   within-most n h =
-      ⊎_elim (λ l. omega (arith, most-between)) (λ l. let m = rw (eq-eqb k 22 l.0) at h in omega (arith, l.1))
+      ⊎_elim (λ l. omega (arith, most_between)) (λ l. let m = rw (eq-eqb k 22 l.0) at h in omega (arith, l.1))
 
 -- ---- the entries that a table is written with
 module _ (t : Table) where
@@ -63,17 +63,17 @@ module _ (t : Table) where
       (λ e. inl ((zeros t).read (passes (undelayed t) e)))
       (λ e. inr (λ n. subst T e ((zeros t).shown n)))
 
-  pub in-eighteen : NoDelays t → entries_for t ≡ limits t
-  in-eighteen n = ap (λ b. cond b (limits t) (entries t)) (passed (undelayed t) ((zeros t).shown n))
+  pub in_eighteen : NoDelays t → entries_for t ≡ limits t
+  in_eighteen n = ap (λ b. cond b (limits t) (entries t)) (passed (undelayed t) ((zeros t).shown n))
 
-  pub in-twenty-two : ¬ NoDelays t → entries_for t ≡ entries t
-  in-twenty-two n =
+  pub in_twenty_two : ¬ NoDelays t → entries_for t ≡ entries t
+  in_twenty_two n =
       case (undelayed t)
       (λ e. absurd (n ((zeros t).read (passes (undelayed t) e))))
       (λ e. ap (λ b. cond b (limits t) (entries t)) e)
 
-  pub how-many : (length (entries_for t) ≡ 18) ⊎ (length (entries_for t) ≡ 22)
-  how-many = ⊎_elim (λ n. inl (ap length (in-eighteen n))) (λ n. inr (ap length (in-twenty-two n))) delays
+  pub how_many : (length (entries_for t) ≡ 18) ⊎ (length (entries_for t) ≡ 22)
+  how_many = ⊎_elim (λ n. inl (ap length (in_eighteen n))) (λ n. inr (ap length (in_twenty_two n))) delays
 
   -- the table is that of its entries
   abbrev with_delays : ℕ → ℕ → ℕ → ℕ → Table
@@ -83,27 +83,27 @@ module _ (t : Table) where
   same-table =
       ⊎_elim
       (λ n.
-      ap table_of (in-eighteen n)
-      ∙ sym (ap (λ a. with_delays a t.error_clutch_open_de t.clutch_close_de t.error_clutch_close_de) n.plain-open
-      ∙ ap (λ b. with_delays 0 b t.clutch_close_de t.error_clutch_close_de) n.error-open
+      ap table_of (in_eighteen n)
+      ∙ sym (ap (λ a. with_delays a t.error_clutch_open_de t.clutch_close_de t.error_clutch_close_de) n.plain_open
+      ∙ ap (λ b. with_delays 0 b t.clutch_close_de t.error_clutch_close_de) n.error_open
       ∙ ap (λ c. with_delays 0 0 c t.error_clutch_close_de) n.plain-close
       ∙ ap (λ d. with_delays 0 0 0 d) n.error-close))
-      (λ n. ap table_of (in-twenty-two n))
+      (λ n. ap table_of (in_twenty_two n))
       delays
 
   pub entries-taken : take (length (entries_for t)) (entries t) ≡ entries_for t
-  entries-taken = ⊎_elim (λ n. rw (in-eighteen n)) (λ n. rw (in-twenty-two n)) delays
+  entries-taken = ⊎_elim (λ n. rw (in_eighteen n)) (λ n. rw (in_twenty_two n)) delays
 
-  pub no-more-than-22 : length (entries_for t) ≤ 22
-  no-more-than-22 = at-most-22 (length (entries_for t)) (inr how-many)
+  pub no_more_than_22 : length (entries_for t) ≤ 22
+  no_more_than_22 = at_most_22 (length (entries_for t)) (inr how_many)
 
 -- ---- of a wish
 pub written-with : (w : Wish) → WrittenWith w (length (entries_for (wished w)))
 written-with (Given t) =
-    ⊎_elim (λ n. inl (n, ap length (in-eighteen t n))) (λ n. inr (n, ap length (in-twenty-two t n))) (delays t)
+    ⊎_elim (λ n. inl (n, ap length (in_eighteen t n))) (λ n. inr (n, ap length (in_twenty_two t n))) (delays t)
 written-with NoTable = refl
 
-pub with-no-others : (w : Wish) (k : ℕ) → WrittenWith w k → k ≡ length (entries_for (wished w))
-with-no-others (Given t) k (inl h) = h.1 ∙ sym (ap length (in-eighteen t h.0))
-with-no-others (Given t) k (inr h) = h.1 ∙ sym (ap length (in-twenty-two t h.0))
-with-no-others NoTable k e = e
+pub with_no_others : (w : Wish) (k : ℕ) → WrittenWith w k → k ≡ length (entries_for (wished w))
+with_no_others (Given t) k (inl h) = h.1 ∙ sym (ap length (in_eighteen t h.0))
+with_no_others (Given t) k (inr h) = h.1 ∙ sym (ap length (in_twenty_two t h.0))
+with_no_others NoTable k e = e

@@ -8,7 +8,7 @@ use native.Mathlib.Omega.{arith}
 use lib.Dec.{T, eqb}
 use borrow.Author.Tests.{eq-eqb, ne_eqb}
 use Rattle.checks.specs.Checks.{Check, ◌!◌, first}
-use Rattle.checks.proofs.Checks.{Holds, absent, first→holds, first-left, first-right}
+use Rattle.checks.proofs.Checks.{Holds, absent, first→holds, first-left, first_right}
 use Rattle.limits.specs.Rules.{broken_rule}
 use Rattle.stepfile.specs.Files.{headed, table_in, checks, refusing, refusal_of}
 
@@ -30,38 +30,38 @@ module _ (cs : List Check) (r : ℕ) where
   abbrev whole : ℕ
   whole = first (cs ++ ((eqb r 0 ! 4) ∷ []))
 
-  stopped-before : {h : ℕ} → T (absent 4 cs) → h ≡ first cs → ¬ (h ≡ 0) → record { number = h; rule = 0 } ≡ refusing whole r
-  stopped-before {h} a e n =
+  stopped_before : {h : ℕ} → T (absent 4 cs) → h ≡ first cs → ¬ (h ≡ 0) → record { number = h; rule = 0 } ≡ refusing whole r
+  stopped_before {h} a e n =
       let other : ¬ (h ≡ 4) = λ z. let q = (first→holds 4 cs a (sym e ∙ z)).1 in omega arith in
       let same : h ≡ whole = e ∙ sym (first-left cs ((eqb r 0 ! 4) ∷ []) (λ z. n (e ∙ z))) in
       let own : record { number = h; rule = 0 } ≡ refusing h r = rw (ne_eqb h 4 other) in
       own ∙ ap (λ k. refusing k r) same
 
-  stopped-there : T (absent 0 cs) → first cs ≡ 0 → ¬ (r ≡ 0) → record { number = 4; rule = r } ≡ refusing whole r
-  stopped-there a e n =
+  stopped_there : T (absent 0 cs) → first cs ≡ 0 → ¬ (r ≡ 0) → record { number = 4; rule = r } ≡ refusing whole r
+  stopped_there a e n =
       let last : first ((eqb r 0 ! 4) ∷ []) ≡ 4 = rw (ne_eqb r 0 n) in
-      ap (λ k. refusing k r) (sym (first-right cs ((eqb r 0 ! 4) ∷ []) (first→holds 0 cs a e).0 ∙ last))
+      ap (λ k. refusing k r) (sym (first_right cs ((eqb r 0 ! 4) ∷ []) (first→holds 0 cs a e).0 ∙ last))
 
   not_stopped : T (absent 0 cs) → first cs ≡ 0 → r ≡ 0 → record { number = 0; rule = 0 } ≡ refusing whole r
   not_stopped a e z =
       let last : first ((eqb r 0 ! 4) ∷ []) ≡ 0 = rw (eq-eqb r 0 z) in
-      ap (λ k. refusing k r) (sym (first-right cs ((eqb r 0 ! 4) ∷ []) (first→holds 0 cs a e).0 ∙ last))
+      ap (λ k. refusing k r) (sym (first_right cs ((eqb r 0 ! 4) ∷ []) (first→holds 0 cs a e).0 ∙ last))
 
 module _ (f : List ℕ) where
   pub header_refused : {h : ℕ} → h ≡ first (headed f) → ¬ (h ≡ 0) → record { number = h; rule = 0 } ≡ refusal_of f
-  header_refused = stopped-before (headed f) (broken_rule (table_in f)) tt
+  header_refused = stopped_before (headed f) (broken_rule (table_in f)) tt
 
-  pub rule-refused :
+  pub rule_refused :
       {h r : ℕ} → h ≡ first (headed f) → h ≡ 0 → r ≡ broken_rule (table_in f) → ¬ (r ≡ 0)
       → record { number = 4; rule = r } ≡ refusal_of f
-  rule-refused e z q n =
+  rule_refused e z q n =
       ap (λ k. record { number = 4; rule = k }) q
-      ∙ stopped-there (headed f) (broken_rule (table_in f)) tt (sym e ∙ z) (λ b. n (q ∙ b))
+      ∙ stopped_there (headed f) (broken_rule (table_in f)) tt (sym e ∙ z) (λ b. n (q ∙ b))
 
-  pub not-refused :
+  pub not_refused :
       {h r : ℕ} → h ≡ first (headed f) → h ≡ 0 → r ≡ broken_rule (table_in f) → r ≡ 0
       → record { number = 0; rule = 0 } ≡ refusal_of f
-  not-refused e z q b = not_stopped (headed f) (broken_rule (table_in f)) tt (sym e ∙ z) (sym q ∙ b)
+  not_refused e z q b = not_stopped (headed f) (broken_rule (table_in f)) tt (sym e ∙ z) (sym q ∙ b)
 
   -- of a good file all checks hold
   pub good : (refusal_of f).number ≡ 0 → Holds (checks f)

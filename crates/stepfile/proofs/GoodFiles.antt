@@ -11,17 +11,17 @@ use Rattle.shift.specs.Answers.{reading}
 use Rattle.shift.proofs.Refusals.{reads}
 use Rattle.stepfile.specs.Files.{table_in, refusal_of, record_bytes, readings_of}
 use Rattle.stepfile.specs.Refusals.{bits16, place, FileHolds}
-use Rattle.stepfile.proofs.RecordLaws.{record_at, record-in}
-use Rattle.stepfile.proofs.TableLaws.{with-twenty-two, with-eighteen, without-entries, records-from}
+use Rattle.stepfile.proofs.RecordLaws.{record_at, record_in}
+use Rattle.stepfile.proofs.TableLaws.{with_twenty_two, with_eighteen, without_entries, records-from}
 use Rattle.stepfile.proofs.WholeLaws.{good-file}
-use Rattle.stepfile.proofs.RoundTrip.{as-many-records}
+use Rattle.stepfile.proofs.RoundTrip.{as_many_records}
 
 module _ (f : List ℕ) (z : (refusal_of f).number ≡ 0) where
   -- the record at an index is read of the four bytes at its place
-  pub read-there :
+  pub read_there :
       (i : ℕ) → i < length (readings_of f)
       → get_or (readings_of f) i WrongCode ≡ reading (get_or f (place f i) 0) (get_or f (place f i + 1) 0) (bits16 f (place f i + 2))
-  read-there i h =
+  read_there i h =
       let good = good-file f z in
       let whole = good.whole in
       let offset = 12 + 2 * bits16 f 2 in
@@ -29,7 +29,7 @@ module _ (f : List ℕ) (z : (refusal_of f).number ≡ 0) where
       let one : offset + (4 * i + 1) ≡ offset + 4 * i + 1 = omega arith in
       let two : offset + (4 * i + 2) ≡ offset + 4 * i + 2 = omega arith in
       let three : offset + (4 * i + 3) ≡ offset + 4 * i + 2 + 1 = omega arith in
-      record-in (record_bytes f) i h
+      record_in (record_bytes f) i h
       ∙ ap (λ l. record_at l (4 * i)) bytes
       ∙ rw (
         get_or-drop offset f (4 * i) 0,
@@ -41,13 +41,13 @@ module _ (f : List ℕ) (z : (refusal_of f).number ≡ 0) where
         three,
       )
 
-  pub good-files-hold : FileHolds f (table_in f) (readings_of f)
-  good-files-hold =
+  pub good_files_hold : FileHolds f (table_in f) (readings_of f)
+  good_files_hold =
       record {
-        without-entries = without-entries f;
-        with-eighteen = λ e. let whole = (good-file f z).whole in with-eighteen f (omega arith) e;
-        with-twenty-two = λ e. let whole = (good-file f z).whole in with-twenty-two f (omega arith) e;
-        count = as-many-records f z ∙ omega arith;
+        without_entries = without_entries f;
+        with_eighteen = λ e. let whole = (good-file f z).whole in with_eighteen f (omega arith) e;
+        with_twenty_two = λ e. let whole = (good-file f z).whole in with_twenty_two f (omega arith) e;
+        count = as_many_records f z ∙ omega arith;
         each = λ i h.
-            rw (read-there i h) (reads (get_or f (place f i + 1) 0) (bits16 f (place f i + 2)) (get_or f (place f i) 0));
+            rw (read_there i h) (reads (get_or f (place f i + 1) 0) (bits16 f (place f i + 2)) (get_or f (place f i) 0));
       }

@@ -65,15 +65,15 @@ module _ (a b c d : ℕ) (rs : List Reading) where
   later WrongCode h = absurd h
   later WrongAmount h = absurd h
 
-  its-middle : (r : Reading) → record_of a b c d ≡ r → AllRead (r ∷ rs) → b ≡ 0
-  its-middle (Means x) e h = middle b (c + 256 * d) x a e
-  its-middle WrongCode e h = absurd h
-  its-middle WrongAmount e h = absurd h
+  its_middle : (r : Reading) → record_of a b c d ≡ r → AllRead (r ∷ rs) → b ≡ 0
+  its_middle (Means x) e h = middle b (c + 256 * d) x a e
+  its_middle WrongCode e h = absurd h
+  its_middle WrongAmount e h = absurd h
 
-  its-refusal : (r : Reading) → AllRead (r ∷ rs) → refusal r ≡ 0
-  its-refusal (Means x) h = refl
-  its-refusal WrongCode h = absurd h
-  its-refusal WrongAmount h = absurd h
+  its_refusal : (r : Reading) → AllRead (r ∷ rs) → refusal r ≡ 0
+  its_refusal (Means x) h = refl
+  its_refusal WrongCode h = absurd h
+  its_refusal WrongAmount h = absurd h
 
 -- ---- as many as there are four bytes
 pub counted : {A : Type 0} (each : ℕ → ℕ → ℕ → ℕ → A) (n : ℕ) (l : List ℕ) → length l ≡ 4 * n → length (every_four each l) ≡ n
@@ -103,7 +103,7 @@ records-written n (a ∷ b ∷ c ∷ []) e h all = absurd (omega arith)
 records-written zero (a ∷ b ∷ c ∷ d ∷ l) e h all = absurd (omega arith)
 records-written (suc n) (a ∷ b ∷ c ∷ d ∷ l) e h all =
     let rest = later a b c d (records_in l) (record_of a b c d) all in
-    let zero-byte = its-middle a b c d (records_in l) (record_of a b c d) refl all in
+    let zero-byte = its_middle a b c d (records_in l) (record_of a b c d) refl all in
     one_written a b c d (bytes_of (records_of (codes_of l) (amounts_of l))) (h 0) (h 2) zero-byte
     ∙ ap (λ t. a ∷ b ∷ c ∷ d ∷ t) (records-written n l (omega arith) (λ i. h (suc (suc (suc (suc i))))) rest)
 
@@ -116,7 +116,7 @@ none-wrong i (a ∷ b ∷ c ∷ d ∷ l) all =
     let r = record_of a b c d in
     let n = c + 256 * d in
     let reads : refusal (reading a 0 n) ≡ 0 =
-    ap (λ m. refusal (reading a m n)) (sym (its-middle a b c d (records_in l) r refl all)) ∙ its-refusal a b c d (records_in l) r all
+    ap (λ m. refusal (reading a m n)) (sym (its_middle a b c d (records_in l) r refl all)) ∙ its_refusal a b c d (records_in l) r all
     in
     ap (λ k. (wrong_or k i (first_wrong (suc i) (codes_of l) (amounts_of l))).number) reads
     ∙ none-wrong (suc i) l (later a b c d (records_in l) r all)

@@ -36,12 +36,12 @@ pub no_more : (l : List ℕ) (i : ℕ) → length l ≤ i + 3 → records_in (dr
 no_more l i h = short (drop i l) (simp length-drop (omega arith))
 
 -- the record at an index stands at four times that place
-pub record-in : (l : List ℕ) (i : ℕ) → i < length (records_in l) → get_or (records_in l) i WrongCode ≡ record_at l (4 * i)
-record-in [] i h = absurd (omega arith)
-record-in (a ∷ []) i h = absurd (omega arith)
-record-in (a ∷ b ∷ []) i h = absurd (omega arith)
-record-in (a ∷ b ∷ c ∷ []) i h = absurd (omega arith)
-record-in (a ∷ b ∷ c ∷ d ∷ l) zero h = refl
-record-in (a ∷ b ∷ c ∷ d ∷ l) (suc i) h =
+pub record_in : (l : List ℕ) (i : ℕ) → i < length (records_in l) → get_or (records_in l) i WrongCode ≡ record_at l (4 * i)
+record_in [] i h = absurd (omega arith)
+record_in (a ∷ []) i h = absurd (omega arith)
+record_in (a ∷ b ∷ []) i h = absurd (omega arith)
+record_in (a ∷ b ∷ c ∷ []) i h = absurd (omega arith)
+record_in (a ∷ b ∷ c ∷ d ∷ l) zero h = refl
+record_in (a ∷ b ∷ c ∷ d ∷ l) (suc i) h =
     let there : 4 * suc i ≡ suc (suc (suc (suc (4 * i)))) = omega arith in
-    record-in l i (omega arith) ∙ rw there (simp towards_suc)
+    record_in l i (omega arith) ∙ rw there (simp towards_suc)

@@ -34,8 +34,8 @@ module _ (c n : ℕ) (cs ns : List ℕ) (i : ℕ) where
       }
 
   module _ (w : Wrong) (reads : FirstOf (refusals c 0 n) 0) (rest : Found cs ns (suc i) w) where
-    found-later : Found (c ∷ cs) (n ∷ ns) i w
-    found-later =
+    found_later : Found (c ∷ cs) (n ∷ ns) i w
+    found_later =
         record {
           all_read = λ e. earlier (rest.all_read e);
           there =
@@ -60,7 +60,7 @@ found i (c ∷ cs) (n ∷ ns) e =
     go :
         (k : ℕ) → FirstOf (refusals c 0 n) k → Found cs ns (suc i) (first_wrong (suc i) cs ns)
         → Found (c ∷ cs) (n ∷ ns) i (wrong_or k i (first_wrong (suc i) cs ns))
-    go zero f rest = found-later c n cs ns i (first_wrong (suc i) cs ns) f rest
+    go zero f rest = found_later c n cs ns i (first_wrong (suc i) cs ns) f rest
     go (suc k) f rest = found_first c n cs ns i (suc k) f (λ z. omega arith)
 
 -- the first record that does not read is one, and its number is one
@@ -82,7 +82,7 @@ module _ (cs ns : List ℕ) where
             ]
       ]
 
-  pub five-or-six : (k i : ℕ) → WrongAt cs ns k i → ¬ (k ≡ 0) → (k ≡ 5) ⊎ (k ≡ 6)
-  five-or-six k i a z =
+  pub five_or_six : (k i : ℕ) → WrongAt cs ns k i → ¬ (k ≡ 0) → (k ≡ 5) ⊎ (k ≡ 6)
+  five_or_six k i a z =
       ⊎_elim (λ e. absurd (z e)) (⊎_elim (λ e. inl e) (⊎_elim (λ e. inr e) (λ e. absurd e)))
       (one_of (refusals (get_or cs i 0) 0 (get_or ns i 0)) k a.wrong)

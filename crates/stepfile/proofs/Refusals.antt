@@ -8,30 +8,30 @@ use Rattle.shift.specs.Refusals.{refusals}
 use Rattle.shift.proofs.Refusals.{in_order}
 use Rattle.stepfile.specs.Files.{refusal_of, readings_of}
 use Rattle.stepfile.specs.Refusals.{FileAnswers, FileHolds, WriteAnswers}
-use Rattle.stepfile.proofs.record_refusal.Reads as record-refusal-reads
-use Rattle.stepfile.proofs.refused.Reads as refused-reads
-use Rattle.stepfile.proofs.table.Reads as table-reads
-use Rattle.stepfile.proofs.write.write.Reads as write-reads
-use Rattle.stepfile.proofs.FileRefusals.{file-answers}
-use Rattle.stepfile.proofs.GoodFiles.{good-files-hold}
-use Rattle.stepfile.proofs.WriteRefusals.{write-answers}
+use Rattle.stepfile.proofs.record_refusal.Reads as record_refusal_reads
+use Rattle.stepfile.proofs.refused.Reads as refused_reads
+use Rattle.stepfile.proofs.table.Reads as table_reads
+use Rattle.stepfile.proofs.write.write.Reads as write_reads
+use Rattle.stepfile.proofs.FileRefusals.{file_answers}
+use Rattle.stepfile.proofs.GoodFiles.{good_files_hold}
+use Rattle.stepfile.proofs.WriteRefusals.{write_answers}
 
 pub refused :
-    (κs : _) (a : _) (r : _) (at : _) → refused-reads.Post κs a r at → FileAnswers a.0.now r.number r.rule
-refused κs a r at p = rw p (file-answers a.0.now)
+    (κs : _) (a : _) (r : _) (at : _) → refused_reads.Post κs a r at → FileAnswers a.0.now r.number r.rule
+refused κs a r at p = rw p (file_answers a.0.now)
 
 pub write :
-    (κs : _) (a : _) (r : _) (at : _) → write-reads.Post κs a r at
+    (κs : _) (a : _) (r : _) (at : _) → write_reads.Post κs a r at
     → WriteAnswers a.0 a.1.0.now a.1.1.0.now a.1.1.1.0.now r.number r.rule r.index r.length
     at.1.1.1.0.now
-write κs a r at p = rw (p.0, p.1) (write-answers a.0 a.1.0.now a.1.1.0.now a.1.1.1.0.now)
+write κs a r at p = rw (p.0, p.1) (write_answers a.0 a.1.0.now a.1.1.0.now a.1.1.1.0.now)
 
-pub record-refusal :
-    (κs : _) (a : _) (r : _) (at : _) → record-refusal-reads.Post κs a r at
+pub record_refusal :
+    (κs : _) (a : _) (r : _) (at : _) → record_refusal_reads.Post κs a r at
     → FirstOf (refusals a.0 a.1.0 (a.1.1.0 + 256 * a.1.1.1.0)) r
-record-refusal κs a r at p = rw p (in_order a.0 a.1.0 (a.1.1.0 + 256 * a.1.1.1.0))
+record_refusal κs a r at p = rw p (in_order a.0 a.1.0 (a.1.1.0 + 256 * a.1.1.1.0))
 
 pub table :
-    (κs : _) (a : _) (r : _) (at : _) → table-reads.Post κs a r at → (refusal_of a.0.now).number ≡ 0
+    (κs : _) (a : _) (r : _) (at : _) → table_reads.Post κs a r at → (refusal_of a.0.now).number ≡ 0
     → FileHolds a.0.now r (readings_of a.0.now)
-table κs a r at p z = rw p (good-files-hold a.0.now z)
+table κs a r at p z = rw p (good_files_hold a.0.now z)

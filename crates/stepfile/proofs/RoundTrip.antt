@@ -19,12 +19,12 @@ use Rattle.stepfile.specs.Records.{record_of, every_four, records_in}
 use Rattle.stepfile.specs.Files.{table_entries, record_offset, record_count, most_records, headed, table_in, refusal_of, record_bytes, readings_of}
 use Rattle.stepfile.specs.Writing.{entries_for, most_for, header_of, records_of, file_with, file_of, first_wrong, lists, writable}
 use Rattle.stepfile.specs.RoundTrip.{Bytes, readings_by, AllRead, codes_of, amounts_of, OtherEntries, codes_in, amounts_in}
-use Rattle.stepfile.proofs.EntryLaws.{Few, at-most-22, how-many, same-table}
+use Rattle.stepfile.proofs.EntryLaws.{Few, at_most_22, how_many, same-table}
 use Rattle.stepfile.proofs.WritingLaws.{size}
-use Rattle.stepfile.proofs.TableLaws.{dropped, read_back, entries-back, offset-back, count-back, with-twenty-two, with-eighteen, headed-well, well, records-from, behind}
+use Rattle.stepfile.proofs.TableLaws.{dropped, read_back, entries-back, offset_back, count-back, with_twenty_two, with_eighteen, headed_well, well, records-from, behind}
 use Rattle.stepfile.proofs.StepLaws.{records-back, all_read}
 use Rattle.stepfile.proofs.ReadLaws.{counted, records-written, none-wrong}
-use Rattle.stepfile.proofs.WholeLaws.{GoodFile, good-file, numbers-written, length-u16s_at, six, others-in-eighteen, entries-in, no-more-than-written, assembled}
+use Rattle.stepfile.proofs.WholeLaws.{GoodFile, good-file, numbers_written, length-u16s_at, six, others_in_eighteen, entries_in, no_more_than_written, assembled}
 
 -- ---- a file with entries, codes and amounts
 module _ (es cs ns : List ℕ) (e : length cs ≡ length ns) where
@@ -34,25 +34,25 @@ module _ (es cs ns : List ℕ) (e : length cs ≡ length ns) where
   abbrev rest : List ℕ
   rest = es ++ records_of cs ns
 
-  entries-of : table_entries f ≡ length es
-  entries-of = entries-back (length es) (length cs) rest
+  entries_of : table_entries f ≡ length es
+  entries_of = entries-back (length es) (length cs) rest
 
-  u16s-of : u16s_at f 12 (length es) ≡ es
-  u16s-of = sym (dropped f 12 0 (length es)) ∙ read_back es (records_of cs ns)
+  u16s_of : u16s_at f 12 (length es) ≡ es
+  u16s_of = sym (dropped f 12 0 (length es)) ∙ read_back es (records_of cs ns)
 
-  table-of : (length es ≡ 18) ⊎ (length es ≡ 22) → table_in f ≡ table_of es
-  table-of (inl k) =
-      with-eighteen f (omega (arith, size es cs ns e)) (entries-of ∙ k) ∙ ap table_of (ap (u16s_at f 12) (sym k) ∙ u16s-of)
-  table-of (inr k) =
-      with-twenty-two f (omega (arith, size es cs ns e)) (entries-of ∙ k) ∙ ap table_of (ap (u16s_at f 12) (sym k) ∙ u16s-of)
+  table_of_lem : (length es ≡ 18) ⊎ (length es ≡ 22) → table_in f ≡ table_of es
+  table_of_lem (inl k) =
+      with_eighteen f (omega (arith, size es cs ns e)) (entries_of ∙ k) ∙ ap table_of (ap (u16s_at f 12) (sym k) ∙ u16s_of)
+  table_of_lem (inr k) =
+      with_twenty_two f (omega (arith, size es cs ns e)) (entries_of ∙ k) ∙ ap table_of (ap (u16s_at f 12) (sym k) ∙ u16s_of)
 
-  header-is-good : Few (length es) → length cs ≤ most_records (length es) → Holds (headed f)
-  header-is-good k m =
+  header_is_good : Few (length es) → length cs ≤ most_records (length es) → Holds (headed f)
+  header_is_good k m =
       let s = size es cs ns e in
-      let a = entries-of in
-      let b = offset-back (length es) (length cs) rest in
+      let a = entries_of in
+      let b = offset_back (length es) (length cs) rest in
       let c = count-back (length es) (length cs) rest in
-      headed-well
+      headed_well
       (length f)
       12
       (table_entries f)
@@ -64,10 +64,10 @@ module _ (es cs ns : List ℕ) (e : length cs ≡ length ns) where
       (subst (λ q. record_count f ≤ most_records q) (sym a) (omega arith))
       (omega arith)
 
-  record-bytes : (refusal_of f).number ≡ 0 → record_bytes f ≡ bytes_of (records_of cs ns)
-  record-bytes z =
+  record_bytes_lem : (refusal_of f).number ≡ 0 → record_bytes f ≡ bytes_of (records_of cs ns)
+  record_bytes_lem z =
       records-from f z (omega (arith, size es cs ns e))
-      ∙ ap (λ i. drop i f) (offset-back (length es) (length cs) rest)
+      ∙ ap (λ i. drop i f) (offset_back (length es) (length cs) rest)
       ∙ behind (length es) (length cs) es (records_of cs ns) refl
 
 -- ---- what is written is a good file and reads back
@@ -81,37 +81,37 @@ known :
 known t cs ns e = accepted (length cs) (length ns) (most_for t) (broken_rule t) e
 
 module _ (t : Table) (cs ns : List ℕ) (e : first (writable t cs ns) ≡ 0) where
-  pub written-in-so-many : table_entries (file_of t cs ns) ≡ length (entries_for t)
-  written-in-so-many = entries-of (entries_for t) cs ns (known t cs ns e).0
+  pub written_in_so_many : table_entries (file_of t cs ns) ≡ length (entries_for t)
+  written_in_so_many = entries_of (entries_for t) cs ns (known t cs ns e).0
 
-  pub written-reads-back-the-table : table_in (file_of t cs ns) ≡ t
-  written-reads-back-the-table = table-of (entries_for t) cs ns (known t cs ns e).0 (how-many t) ∙ same-table t
+  pub written_reads_back_the_table : table_in (file_of t cs ns) ≡ t
+  written_reads_back_the_table = table_of_lem (entries_for t) cs ns (known t cs ns e).0 (how_many t) ∙ same-table t
 
-  pub written-is-good : (refusal_of (file_of t cs ns)).number ≡ 0
-  written-is-good =
+  pub written_is_good : (refusal_of (file_of t cs ns)).number ≡ 0
+  written_is_good =
       let h = known t cs ns e in
       well
       (file_of t cs ns)
-      (header-is-good (entries_for t) cs ns h.0 (inr (how-many t)) h.1)
-      (ap broken_rule written-reads-back-the-table ∙ h.2)
+      (header_is_good (entries_for t) cs ns h.0 (inr (how_many t)) h.1)
+      (ap broken_rule written_reads_back_the_table ∙ h.2)
 
-  pub written-reads-back-the-steps : (first_wrong 0 cs ns).number ≡ 0 → readings_of (file_of t cs ns) ≡ readings_by cs ns
-  written-reads-back-the-steps r =
-      ap records_in (record-bytes (entries_for t) cs ns (known t cs ns e).0 written-is-good) ∙ records-back 0 cs ns r
+  pub written_reads_back_the_steps : (first_wrong 0 cs ns).number ≡ 0 → readings_of (file_of t cs ns) ≡ readings_by cs ns
+  written_reads_back_the_steps r =
+      ap records_in (record_bytes_lem (entries_for t) cs ns (known t cs ns e).0 written_is_good) ∙ records-back 0 cs ns r
 
   pub written-steps-all-read : (first_wrong 0 cs ns).number ≡ 0 → AllRead (readings_by cs ns)
   written-steps-all-read r = all_read 0 cs ns r
 
 -- ---- any admitted table, also one whose delays are 0, reads back from twenty-two entries
-pub twenty-two-entries-read-back :
+pub twenty_two_entries_read_back :
     (t : Table) (cs ns : List ℕ) → broken_rule t ≡ 0 → length cs ≡ length ns → length cs ≤ 16370 → (first_wrong 0 cs ns).number ≡ 0
     → let f = file_with (entries t) cs ns in
     (table_entries f ≡ 22) × ((refusal_of f).number ≡ 0) × (table_in f ≡ t) × (readings_of f ≡ readings_by cs ns)
-twenty-two-entries-read-back t cs ns b e m r =
+twenty_two_entries_read_back t cs ns b e m r =
     let es = entries t in
-    let same = table-of es cs ns e (inr refl) in
-    let good = well (file_with es cs ns) (header-is-good es cs ns e (inr (inr refl)) m) (ap broken_rule same ∙ b) in
-    (entries-of es cs ns e, good, same, ap records_in (record-bytes es cs ns e good) ∙ records-back 0 cs ns r)
+    let same = table_of_lem es cs ns e (inr refl) in
+    let good = well (file_with es cs ns) (header_is_good es cs ns e (inr (inr refl)) m) (ap broken_rule same ∙ b) in
+    (entries_of es cs ns e, good, same, ap records_in (record_bytes_lem es cs ns e good) ∙ records-back 0 cs ns r)
 
 -- ---- a good file whose records are all steps, taken apart
 module _ (f : List ℕ) (b : Bytes f) (e : (refusal_of f).number ≡ 0) (all : AllRead (readings_of f)) where
@@ -124,50 +124,50 @@ module _ (f : List ℕ) (b : Bytes f) (e : (refusal_of f).number ≡ 0) (all : A
   abbrev records : List ℕ
   records = drop ends f
 
-  records-in : record_bytes f ≡ records
-  records-in =
+  records_in_lem : record_bytes f ≡ records
+  records_in_lem =
       let w = good.whole in
       records-from f e (omega arith) ∙ ap (λ i. drop i f) good.follow
 
   records-length : length records ≡ 4 * record_count f
   records-length = let w = good.whole in let d = length-drop ends f in omega arith
 
-  steps-in : AllRead (records_in records)
-  steps-in = subst (λ l. AllRead (records_in l)) records-in all
+  steps_in : AllRead (records_in records)
+  steps_in = subst (λ l. AllRead (records_in l)) records_in_lem all
 
   -- of each record one
-  counted-in : (each : ℕ → ℕ → ℕ → ℕ → ℕ) → length (every_four each (record_bytes f)) ≡ record_count f
-  counted-in each = ap (λ l. length (every_four each l)) records-in ∙ counted each (record_count f) records records-length
+  counted_in : (each : ℕ → ℕ → ℕ → ℕ → ℕ) → length (every_four each (record_bytes f)) ≡ record_count f
+  counted_in each = ap (λ l. length (every_four each l)) records_in_lem ∙ counted each (record_count f) records records-length
 
   codes-count : length (codes_in f) ≡ record_count f
-  codes-count = counted-in _
+  codes-count = counted_in _
 
   as_long : length (codes_in f) ≡ length (amounts_in f)
-  as_long = codes-count ∙ sym (counted-in _)
+  as_long = codes-count ∙ sym (counted_in _)
 
-  none-is-wrong : (first_wrong 0 (codes_in f) (amounts_in f)).number ≡ 0
-  none-is-wrong = ap (λ l. (first_wrong 0 (codes_of l) (amounts_of l)).number) records-in ∙ none-wrong 0 records steps-in
+  none_is_wrong : (first_wrong 0 (codes_in f) (amounts_in f)).number ≡ 0
+  none_is_wrong = ap (λ l. (first_wrong 0 (codes_of l) (amounts_of l)).number) records_in_lem ∙ none-wrong 0 records steps_in
 
   records-same : bytes_of (records_of (codes_in f) (amounts_in f)) ≡ records
   records-same =
-      ap (λ l. bytes_of (records_of (codes_of l) (amounts_of l))) records-in
-      ∙ records-written (record_count f) records records-length (λ j. rw get_or-drop (b (ends + j))) steps-in
+      ap (λ l. bytes_of (records_of (codes_of l) (amounts_of l))) records_in_lem
+      ∙ records-written (record_count f) records records-length (λ j. rw get_or-drop (b (ends + j))) steps_in
 
   -- what its codes and amounts mean is what its records mean
-  pub taken-apart-reads-the-same : readings_by (codes_in f) (amounts_in f) ≡ readings_of f
-  taken-apart-reads-the-same =
-      sym (records-back 0 (codes_in f) (amounts_in f) none-is-wrong) ∙ ap records_in (records-same ∙ sym records-in)
+  pub taken_apart_reads_the_same : readings_by (codes_in f) (amounts_in f) ≡ readings_of f
+  taken_apart_reads_the_same =
+      sym (records-back 0 (codes_in f) (amounts_in f) none_is_wrong) ∙ ap records_in (records-same ∙ sym records_in_lem)
 
   -- its entries are those that are written
   module _ (z : ¬ OtherEntries f) where
-    entries-fit-in : entries_for (table_in f) ≡ u16s_at f 12 (table_entries f)
-    entries-fit-in = let w = good.whole in entries-in f (omega arith) good.few z
+    entries_fit_in : entries_for (table_in f) ≡ u16s_at f 12 (table_entries f)
+    entries_fit_in = let w = good.whole in entries_in f (omega arith) good.few z
 
     entries-count : length (entries_for (table_in f)) ≡ table_entries f
-    entries-count = ap length entries-fit-in ∙ length-u16s_at f 12 (table_entries f)
+    entries-count = ap length entries_fit_in ∙ length-u16s_at f 12 (table_entries f)
 
-    header-same : header_of (length (entries_for (table_in f))) (length (codes_in f)) ≡ u16s_at f 0 6
-    header-same =
+    header_same : header_of (length (entries_for (table_in f))) (length (codes_in f)) ≡ u16s_at f 0 6
+    header_same =
         ap (λ k. header_of k (length (codes_in f))) entries-count
         ∙ ap (λ n. header_of (table_entries f) n) codes-count
         ∙ six
@@ -183,24 +183,24 @@ module _ (f : List ℕ) (b : Bytes f) (e : (refusal_of f).number ≡ 0) (all : A
         refl
         good.follow
         refl
-        (at-most-22 (table_entries f) good.few)
+        (at_most_22 (table_entries f) good.few)
         good.most
 
     rest-same : bytes_of (entries_for (table_in f)) ++ bytes_of (records_of (codes_in f) (amounts_in f)) ≡ drop 12 f
     rest-same =
         let w = good.whole in
-        ap (λ t. bytes_of t ++ bytes_of (records_of (codes_in f) (amounts_in f))) entries-fit-in
+        ap (λ t. bytes_of t ++ bytes_of (records_of (codes_in f) (amounts_in f))) entries_fit_in
         ∙ ap (λ t. bytes_of (u16s_at f 12 (table_entries f)) ++ t) records-same
-        ∙ numbers-written f b 12 (table_entries f) (omega arith)
+        ∙ numbers_written f b 12 (table_entries f) (omega arith)
 
 -- ---- the writer accepts it: its first three checks hold, and no record is wrong
 pub accepting : (a b m r : ℕ) → a ≡ b → a ≤ m → r ≡ 0 → first (lists a b m r) ≡ 0
 accepting a b m r p q z = holds→first (lists a b m r) (omega (arith, tests))
 
-pub read-is-writable :
+pub read_is_writable :
     (f : List ℕ) → Bytes f → (refusal_of f).number ≡ 0 → AllRead (readings_of f)
     → (first (writable (table_in f) (codes_in f) (amounts_in f)) ≡ 0) × ((first_wrong 0 (codes_in f) (amounts_in f)).number ≡ 0)
-read-is-writable f b e all =
+read_is_writable f b e all =
     let g = good f b e all in (
       accepting
           (length (codes_in f))
@@ -208,16 +208,16 @@ read-is-writable f b e all =
           (most_for (table_in f))
           (broken_rule (table_in f))
           (as_long f b e all)
-          (subst (λ m. m ≤ most_for (table_in f)) (sym (codes-count f b e all)) (no-more-than-written f e))
+          (subst (λ m. m ≤ most_for (table_in f)) (sym (codes-count f b e all)) (no_more_than_written f e))
           g.admitted,
-      none-is-wrong f b e all,
+      none_is_wrong f b e all,
     )
 
 -- ---- it is what the writer makes of it, unless it has no entries, or twenty-two with four zeros
-pub read-is-written-back :
+pub read_is_written_back :
     (f : List ℕ) → Bytes f → (refusal_of f).number ≡ 0 → AllRead (readings_of f) → ¬ OtherEntries f
     → file_of (table_in f) (codes_in f) (amounts_in f) ≡ f
-read-is-written-back f b e all z =
+read_is_written_back f b e all z =
     let w = (good f b e all).whole in
     assembled
     f
@@ -227,7 +227,7 @@ read-is-written-back f b e all z =
     (length (codes_in f))
     b
     (omega arith)
-    (header-same f b e all z)
+    (header_same f b e all z)
     (rest-same f b e all z)
 
 -- ---- of no entries, and of twenty-two with four zeros, the writer makes eighteen
@@ -241,36 +241,36 @@ pub record InEighteen (f g : List ℕ) : Type 0 where
   pub size : length g + 2 * table_entries f ≡ length f + 36
   pub other : ¬ (g ≡ f)
 
-not-eighteen : (f : List ℕ) → OtherEntries f → ¬ (table_entries f ≡ 18)
-not-eighteen f (inl z) e = omega arith
-not-eighteen f (inr z) e = omega (arith, z.0)
+not_eighteen : (f : List ℕ) → OtherEntries f → ¬ (table_entries f ≡ 18)
+not_eighteen f (inl z) e = omega arith
+not_eighteen f (inr z) e = omega (arith, z.0)
 
-pub others-are-written-in-eighteen :
+pub others_are_written_in_eighteen :
     (f : List ℕ) → Bytes f → (refusal_of f).number ≡ 0 → AllRead (readings_of f) → OtherEntries f
     → InEighteen f (file_of (table_in f) (codes_in f) (amounts_in f))
-others-are-written-in-eighteen f b e all z =
+others_are_written_in_eighteen f b e all z =
     let t = table_in f in
     let cs = codes_in f in
     let ns = amounts_in f in
     let w = (good f b e all).whole in
-    let writes = (read-is-writable f b e all).0 in
-    let eighteen = others-in-eighteen f z in
+    let writes = (read_is_writable f b e all).0 in
+    let eighteen = others_in_eighteen f z in
     let s = size (entries_for t) cs ns (as_long f b e all) in
     record {
-      good = written-is-good t cs ns writes;
-      entries = written-in-so-many t cs ns writes ∙ eighteen;
-      table = written-reads-back-the-table t cs ns writes;
+      good = written_is_good t cs ns writes;
+      entries = written_in_so_many t cs ns writes ∙ eighteen;
+      table = written_reads_back_the_table t cs ns writes;
       records =
-          record-bytes (entries_for t) cs ns (as_long f b e all) (written-is-good t cs ns writes)
+          record_bytes_lem (entries_for t) cs ns (as_long f b e all) (written_is_good t cs ns writes)
           ∙ records-same f b e all
-          ∙ sym (records-in f b e all);
+          ∙ sym (records_in_lem f b e all);
       size = omega (arith, codes-count f b e all);
-      other = λ same. not-eighteen f z (sym (ap table_entries same) ∙ written-in-so-many t cs ns writes ∙ eighteen);
+      other = λ same. not_eighteen f z (sym (ap table_entries same) ∙ written_in_so_many t cs ns writes ∙ eighteen);
     }
 
 -- ---- a good file has as many records as its header says
-pub as-many-records : (f : List ℕ) → (refusal_of f).number ≡ 0 → length (readings_of f) ≡ record_count f
-as-many-records f e =
+pub as_many_records : (f : List ℕ) → (refusal_of f).number ≡ 0 → length (readings_of f) ≡ record_count f
+as_many_records f e =
     let g = good-file f e in
     let w = g.whole in
     let ends = 12 + 2 * table_entries f in

@@ -26,9 +26,9 @@ use Rattle.stepfile.specs.Writing.{wished, entries_for, file_of, size_of, first_
 use Rattle.stepfile.specs.RoundTrip.{Bytes, readings_by, AllRead, OtherEntries, codes_in, amounts_in}
 use Rattle.stepfile.proofs.WritingLaws.{size}
 use Rattle.stepfile.proofs.WriteLaws.{written}
-use Rattle.stepfile.proofs.RoundTrip.{written-is-good, written-reads-back-the-table, written-reads-back-the-steps, written-steps-all-read, read-is-written-back, read-is-writable, InEighteen, others-are-written-in-eighteen}
-use Rattle.stepfile.specs.contracts.write.write as write-call
-use Rattle.stepfile.proofs.write.write.Reads as write-reads
+use Rattle.stepfile.proofs.RoundTrip.{written_is_good, written_reads_back_the_table, written_reads_back_the_steps, written-steps-all-read, read_is_written_back, read_is_writable, InEighteen, others_are_written_in_eighteen}
+use Rattle.stepfile.specs.contracts.write.write as write_call
+use Rattle.stepfile.proofs.write.write.Reads as write_reads
 
 -- ---- what is said
 -- a good file with this table and these steps, all of which read
@@ -49,8 +49,8 @@ pub record TakenApart (f codes amounts : List ℕ) : Type 0 where
   pub bytes : Bytes f
   pub good : (refusal_of f).number ≡ 0
   pub all_read : AllRead (readings_of f)
-  pub codes-in : codes ≡ codes_in f
-  pub amounts-in : amounts ≡ amounts_in f
+  pub codes_in_lem : codes ≡ codes_in f
+  pub amounts_in_lem : amounts ≡ amounts_in f
 
 -- the writer answers 0 and the file's length, the file stands at the buffer's start, and all other bytes are as before
 pub record StandsAgain (f : List ℕ) (r : Written) (before after : List ℕ) : Type 0 where
@@ -70,10 +70,10 @@ pub record StandsInEighteen (f : List ℕ) (r : Written) (before after : List �
   pub rest : drop (long_in_eighteen f) after ≡ drop (long_in_eighteen f) before
 
 -- ---- an answer of 0 tells that every check holds
-every-check :
+every_check :
     (k rule : ℕ) (x : Wrong) (n room : ℕ) → (after_lists k rule (after_records x (fitting n room))).number ≡ 0
     → (k ≡ 0) × (x.number ≡ 0) × (n ≤ room)
-every-check k rule x n room e =
+every_check k rule x n room e =
     case (eqb k 0)
     (λ p.
     case (eqb x.number 0)
@@ -111,20 +111,20 @@ module _
       r.number ≡ 0
       → (first (writable t codes amounts) ≡ 0) × ((first_wrong 0 codes amounts).number ≡ 0) × (size_of t codes ≤ length before)
   passed z =
-      every-check (first (writable t codes amounts)) (broken_rule t) (first_wrong 0 codes amounts) (size_of t codes) (length before)
+      every_check (first (writable t codes amounts)) (broken_rule t) (first_wrong 0 codes amounts) (size_of t codes) (length before)
       (ap (λ (q : Written). q.number) (sym a) ∙ z)
 
-  pub reads-back : r.number ≡ 0 → Stands t (readings_by codes amounts) r.length before after
-  reads-back z =
+  pub reads_back : r.number ≡ 0 → Stands t (readings_by codes amounts) r.length before after
+  reads_back z =
       let steps = readings_by codes amounts in
       let h = passed z in
       let s = stands h.0 h.1 h.2 in
       subst (λ n. Stands t steps n before after) (sym (ap (λ (q : Written). q.length) s.answer)) record {
         file =
             subst (GoodFileOf t steps) (sym s.file) record {
-              good = written-is-good t codes amounts h.0;
-              table = written-reads-back-the-table t codes amounts h.0;
-              read = written-reads-back-the-steps t codes amounts h.0 h.1;
+              good = written_is_good t codes amounts h.0;
+              table = written_reads_back_the_table t codes amounts h.0;
+              read = written_reads_back_the_steps t codes amounts h.0 h.1;
               all_read = written-steps-all-read t codes amounts h.0 h.1;
             };
         size = ap length s.file;
@@ -133,27 +133,27 @@ module _
 
   -- a good file that was taken apart
   module _ (f : List ℕ) (p : TakenApart f codes amounts) (v : t ≡ table_in f) where
-    stands-for : length file ≤ length before → StandsAgain file r before after
-    stands-for room =
+    stands_for : length file ≤ length before → StandsAgain file r before after
+    stands_for room =
         let h : (first (writable t codes amounts) ≡ 0) × ((first_wrong 0 codes amounts).number ≡ 0) =
-        rw (v, p.codes-in, p.amounts-in) (read-is-writable f p.bytes p.good p.all_read)
+        rw (v, p.codes_in_lem, p.amounts_in_lem) (read_is_writable f p.bytes p.good p.all_read)
         in
         stands h.0 h.1 (subst (λ n. n ≤ length before) (long h.0) room)
 
-    pub gives-the-file-back : ¬ OtherEntries f → length f ≤ length before → StandsAgain f r before after
-    gives-the-file-back z room =
+    pub gives_the_file_back : ¬ OtherEntries f → length f ≤ length before → StandsAgain f r before after
+    gives_the_file_back z room =
         let same : file ≡ f =
-        rw (v, p.codes-in, p.amounts-in) (read-is-written-back f p.bytes p.good p.all_read z)
+        rw (v, p.codes_in_lem, p.amounts_in_lem) (read_is_written_back f p.bytes p.good p.all_read z)
         in
-        subst (λ g. StandsAgain g r before after) same (stands-for (subst (λ g. length g ≤ length before) (sym same) room))
+        subst (λ g. StandsAgain g r before after) same (stands_for (subst (λ g. length g ≤ length before) (sym same) room))
 
-    pub gives-the-file-in-eighteen : OtherEntries f → long_in_eighteen f ≤ length before → StandsInEighteen f r before after
-    gives-the-file-in-eighteen z room =
+    pub gives_the_file_in_eighteen : OtherEntries f → long_in_eighteen f ≤ length before → StandsInEighteen f r before after
+    gives_the_file_in_eighteen z room =
         let other : InEighteen f file =
-        rw (v, p.codes-in, p.amounts-in) (others-are-written-in-eighteen f p.bytes p.good p.all_read z)
+        rw (v, p.codes_in_lem, p.amounts_in_lem) (others_are_written_in_eighteen f p.bytes p.good p.all_read z)
         in
         let long : length file ≡ long_in_eighteen f = omega (arith, other.size) in
-        let s = stands-for (omega arith) in
+        let s = stands_for (omega arith) in
         record {
           answer = s.answer ∙ ap (λ n. record { number = 0; rule = 0; index = 0; length = n }) long;
           file = subst (InEighteen f) (sym (ap (λ n. take n after) (sym long) ∙ s.file)) other;
@@ -162,8 +162,8 @@ module _
 
 -- ---- of a call of `write`, whatever its contract allows
 module _
-    (κs : Lfts 3) (given : Args write-call.signature κs) (r : Written) (left : AtExit write-call.ended κs)
-    (call : write-reads.Post κs given r left) where
+    (κs : Lfts 3) (given : Args write_call.signature κs) (r : Written) (left : AtExit write_call.ended κs)
+    (call : write_reads.Post κs given r left) where
   abbrev pub wish : Wish
   wish = given.0
 
@@ -180,15 +180,15 @@ module _
   abbrev pub after : List ℕ
   after = left.1.1.1.0.now
 
-  pub write-reads-back : r.number ≡ 0 → Stands (wished wish) (readings_by codes amounts) r.length before after
-  write-reads-back = reads-back (wished wish) codes amounts before after r call.0 call.1
+  pub write_reads_back : r.number ≡ 0 → Stands (wished wish) (readings_by codes amounts) r.length before after
+  write_reads_back = reads_back (wished wish) codes amounts before after r call.0 call.1
 
-  pub write-gives-the-file-back :
+  pub write_gives_the_file_back :
       (f : List ℕ) → TakenApart f codes amounts → wished wish ≡ table_in f → ¬ OtherEntries f → length f ≤ length before
       → StandsAgain f r before after
-  write-gives-the-file-back = gives-the-file-back (wished wish) codes amounts before after r call.0 call.1
+  write_gives_the_file_back = gives_the_file_back (wished wish) codes amounts before after r call.0 call.1
 
-  pub write-gives-the-file-in-eighteen :
+  pub write_gives_the_file_in_eighteen :
       (f : List ℕ) → TakenApart f codes amounts → wished wish ≡ table_in f → OtherEntries f → long_in_eighteen f ≤ length before
       → StandsInEighteen f r before after
-  write-gives-the-file-in-eighteen = gives-the-file-in-eighteen (wished wish) codes amounts before after r call.0 call.1
+  write_gives_the_file_in_eighteen = gives_the_file_in_eighteen (wished wish) codes amounts before after r call.0 call.1

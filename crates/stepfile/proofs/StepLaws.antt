@@ -30,8 +30,8 @@ listed c n e =
           absurd (omega arith)
     ]
 
-same-record : (c n : ℕ) → c < 14 → record_of (c % 256) (c / 256) (n % 256) (n / 256) ≡ reading c 0 n
-same-record c n h =
+same_record : (c n : ℕ) → c < 14 → record_of (c % 256) (c / 256) (n % 256) (n / 256) ≡ reading c 0 n
+same_record c n h =
     let low : c % 256 ≡ c = omega arith in
     let high : c / 256 ≡ 0 = omega arith in
     let amount : n % 256 + 256 * (n / 256) ≡ n = omega arith in
@@ -45,17 +45,17 @@ records-back i (c ∷ cs) [] e = refl
 records-back i (c ∷ cs) (n ∷ ns) e =
     let r = right (refusal (reading c 0 n)) i (first_wrong (suc i) cs ns) e in
     let rest = records-back (suc i) cs ns r.1 in
-    let this = same-record c n (listed c n r.0) in
+    let this = same_record c n (listed c n r.0) in
     ap (λ x. x ∷ records_in (bytes_of (records_of cs ns))) this ∙ ap (λ l. reading c 0 n ∷ l) rest
 
-one-read : (r : Reading) (rs : List Reading) → refusal r ≡ 0 → AllRead rs → AllRead (r ∷ rs)
-one-read (Means x) rs e a = a
-one-read WrongCode rs e a = absurd (omega arith)
-one-read WrongAmount rs e a = absurd (omega arith)
+one_read : (r : Reading) (rs : List Reading) → refusal r ≡ 0 → AllRead rs → AllRead (r ∷ rs)
+one_read (Means x) rs e a = a
+one_read WrongCode rs e a = absurd (omega arith)
+one_read WrongAmount rs e a = absurd (omega arith)
 
 pub all_read : (i : ℕ) (cs ns : List ℕ) → (first_wrong i cs ns).number ≡ 0 → AllRead (readings_by cs ns)
 all_read i [] ns e = tt
 all_read i (c ∷ cs) [] e = tt
 all_read i (c ∷ cs) (n ∷ ns) e =
     let r = right (refusal (reading c 0 n)) i (first_wrong (suc i) cs ns) e in
-    one-read (reading c 0 n) (readings_by cs ns) r.0 (all_read (suc i) cs ns r.1)
+    one_read (reading c 0 n) (readings_by cs ns) r.0 (all_read (suc i) cs ns r.1)

@@ -35,44 +35,44 @@ module _ (l es : List ℕ) (n i : ℕ) where
 
 -- ---- the records of two lists
 module _ (l cs ns : List ℕ) (p i : ℕ) where
-  pub record-stored :
+  pub record_stored :
       i < length cs → i < length ns
       → sets l p (bytes_of (records_of (drop i cs) (drop i ns)))
       ≡ sets (sets (sets l p (bytes_of (get_or cs i 0 ∷ []))) (p + 2) (bytes_of (get_or ns i 0 ∷ []))) (p + 4) (bytes_of (records_of (drop (i + 1) cs) (drop (i + 1) ns)))
-  record-stored h k = rw (add-one i, drop-cons cs i 0 h, drop-cons ns i 0 k) (simp towards_suc)
+  record_stored h k = rw (add-one i, drop-cons cs i 0 h, drop-cons ns i 0 k) (simp towards_suc)
 
   pub records-stored : length cs ≤ i → sets l p (bytes_of (records_of (drop i cs) (drop i ns))) ≡ l
   records-stored h = rw (drop_of_length-le cs h)
 
 -- ---- the first wrong record from an index on
-wrong-there : (k i : ℕ) (rest : Wrong) → ¬ (k ≡ 0) → wrong_or k i rest ≡ record { number = k; index = i }
-wrong-there zero i rest n = absurd (n refl)
-wrong-there (suc k) i rest n = refl
+wrong_there : (k i : ℕ) (rest : Wrong) → ¬ (k ≡ 0) → wrong_or k i rest ≡ record { number = k; index = i }
+wrong_there zero i rest n = absurd (n refl)
+wrong_there (suc k) i rest n = refl
 
 module _ (cs ns : List ℕ) (i : ℕ) where
-  pub right-here :
+  pub right_here :
       i < length cs → i < length ns → refusal (reading (get_or cs i 0) 0 (get_or ns i 0)) ≡ 0
       → first_wrong i (drop i cs) (drop i ns) ≡ first_wrong (i + 1) (drop (i + 1) cs) (drop (i + 1) ns)
-  right-here h k z = rw (add-one i, drop-cons cs i 0 h, drop-cons ns i 0 k, z)
+  right_here h k z = rw (add-one i, drop-cons cs i 0 h, drop-cons ns i 0 k, z)
 
-  pub wrong-here :
+  pub wrong_here :
       {k : ℕ} → i < length cs → i < length ns → k ≡ refusal (reading (get_or cs i 0) 0 (get_or ns i 0)) → ¬ (k ≡ 0)
       → first_wrong i (drop i cs) (drop i ns) ≡ record { number = k; index = i }
-  wrong-here {k} h m e n =
-      rw (drop-cons cs i 0 h, drop-cons ns i 0 m, ← e) (wrong-there k i (first_wrong (suc i) (drop (suc i) cs) (drop (suc i) ns)) n)
+  wrong_here {k} h m e n =
+      rw (drop-cons cs i 0 h, drop-cons ns i 0 m, ← e) (wrong_there k i (first_wrong (suc i) (drop (suc i) cs) (drop (suc i) ns)) n)
 
   pub none_left : length cs ≤ i → first_wrong i (drop i cs) (drop i ns) ≡ record { number = 0; index = 0 }
   none_left h = rw (drop_of_length-le cs h)
 
-  pub none-paired : i < length cs → length ns ≤ i → first_wrong i (drop i cs) (drop i ns) ≡ record { number = 0; index = 0 }
-  none-paired h k = rw (drop-cons cs i 0 h, drop_of_length-le ns k)
+  pub none_paired : i < length cs → length ns ≤ i → first_wrong i (drop i cs) (drop i ns) ≡ record { number = 0; index = 0 }
+  none_paired h k = rw (drop-cons cs i 0 h, drop_of_length-le ns k)
 
 -- ---- header, entries and records in one
-parts-stored :
+parts_stored :
     (l h e r : List ℕ)
     → sets (sets (sets l 0 (bytes_of h)) (length (bytes_of h)) (bytes_of e)) (length (bytes_of h) + length (bytes_of e)) (bytes_of r)
     ≡ sets l 0 (bytes_of (h ++ (e ++ r)))
-parts-stored l h e r =
+parts_stored l h e r =
     let whole : bytes_of (h ++ (e ++ r)) ≡ bytes_of h ++ (bytes_of e ++ bytes_of r) =
     bytes_of-append h (e ++ r) ∙ ap (λ bs. bytes_of h ++ bs) (bytes_of-append e r)
     in
@@ -93,4 +93,4 @@ file-stored l t cs ns k e =
     let place : 12 + 2 * length es ≡ 12 + length (bytes_of es) = omega (arith, length-bytes_of es) in
     rw (e, entries-taken t)
     (ap (λ p. sets (sets (sets l 0 (bytes_of h)) 12 (bytes_of es)) p (bytes_of (records_of cs ns))) place
-    ∙ parts-stored l h es (records_of cs ns))
+    ∙ parts_stored l h es (records_of cs ns))

@@ -16,7 +16,7 @@ use Rattle.numbers.specs.Bytes.{u16s_at, bytes_of}
 use Rattle.stepfile.specs.Files.{table_entries, record_offset, record_count, most_records, headed_by, headed, table_in, refusal_of, from_offset, record_bytes}
 use Rattle.stepfile.specs.Writing.{header_of}
 use Rattle.stepfile.proofs.EntryLaws.{Few, fitting}
-use Rattle.stepfile.proofs.FileLaws.{not-refused}
+use Rattle.stepfile.proofs.FileLaws.{not_refused}
 use Rattle.numbers.proofs.StoreLaws.{bytes_of-append, length-bytes_of}
 
 -- ---- the numbers of 16 bits that were written are read
@@ -41,34 +41,34 @@ module _ (k n : ℕ) (rest : List ℕ) where
   pub entries-back : table_entries headed_file ≡ k
   entries-back = omega arith
 
-  pub offset-back : record_offset headed_file ≡ 12 + 2 * k
-  offset-back = omega arith
+  pub offset_back : record_offset headed_file ≡ 12 + 2 * k
+  offset_back = omega arith
 
   pub count-back : record_count headed_file ≡ n
   count-back = omega arith
 
 -- ---- the table of a file with entries, and of one without
-pub with-twenty-two : (f : List ℕ) → 56 ≤ length f → table_entries f ≡ 22 → table_in f ≡ table_of (u16s_at f 12 22)
+pub with_twenty_two : (f : List ℕ) → 56 ≤ length f → table_entries f ≡ 22 → table_in f ≡ table_of (u16s_at f 12 22)
 unfolding table_in
-with-twenty-two f l e = rw (eq-eqb (table_entries f) 22 e, le-leb 56 (length f) l)
+with_twenty_two f l e = rw (eq-eqb (table_entries f) 22 e, le-leb 56 (length f) l)
 
-pub with-eighteen : (f : List ℕ) → 48 ≤ length f → table_entries f ≡ 18 → table_in f ≡ table_of (u16s_at f 12 18)
+pub with_eighteen : (f : List ℕ) → 48 ≤ length f → table_entries f ≡ 18 → table_in f ≡ table_of (u16s_at f 12 18)
 unfolding table_in
-with-eighteen f l e = rw (ne_eqb (table_entries f) 22 (omega arith), eq-eqb (table_entries f) 18 e, le-leb 48 (length f) l)
+with_eighteen f l e = rw (ne_eqb (table_entries f) 22 (omega arith), eq-eqb (table_entries f) 18 e, le-leb 48 (length f) l)
 
-pub without-entries : (f : List ℕ) → table_entries f ≡ 0 → table_in f ≡ old_default
+pub without_entries : (f : List ℕ) → table_entries f ≡ 0 → table_in f ≡ old_default
 unfolding table_in
-without-entries f e = rw (ne_eqb (table_entries f) 22 (omega arith), ne_eqb (table_entries f) 18 (omega arith))
+without_entries f e = rw (ne_eqb (table_entries f) 22 (omega arith), ne_eqb (table_entries f) 18 (omega arith))
 
 -- ---- a file is good whose header fields and table are
-pub headed-well :
+pub headed_well :
     (len offset k from n : ℕ) → offset ≡ 12 → Few k → from ≡ 12 + 2 * k → n ≤ most_records k → len ≡ 12 + 2 * k + 4 * n
     → Holds (headed_by len offset k from n)
-headed-well len offset k from n o e r m l =
+headed_well len offset k from n o e r m l =
     (omega (arith, tests), (omega (arith, tests), (fitting k e, (omega (arith, tests)))))
 
 pub well : (f : List ℕ) → Holds (headed f) → broken_rule (table_in f) ≡ 0 → (refusal_of f).number ≡ 0
-well f h b = let z = holds→first (headed f) h in sym (ap (λ r. r.number) (not-refused f refl z refl b))
+well f h b = let z = holds→first (headed f) h in sym (ap (λ r. r.number) (not_refused f refl z refl b))
 
 -- ---- the record bytes of a good file
 pub records-from : (f : List ℕ) → (refusal_of f).number ≡ 0 → 12 ≤ length f → record_bytes f ≡ drop (record_offset f) f

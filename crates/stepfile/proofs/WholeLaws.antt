@@ -18,8 +18,8 @@ use Rattle.stepfile.specs.Files.{table_offset, table_entries, record_offset, rec
 use Rattle.stepfile.specs.Writing.{entries_for, most_for, header_of}
 use Rattle.stepfile.specs.RoundTrip.{Bytes, OtherEntries}
 use Rattle.numbers.proofs.StoreLaws.{bytes_of-append}
-use Rattle.stepfile.proofs.EntryLaws.{Few, few, most-between, in-eighteen, in-twenty-two}
-use Rattle.stepfile.proofs.TableLaws.{with-twenty-two, with-eighteen, without-entries}
+use Rattle.stepfile.proofs.EntryLaws.{Few, few, most_between, in_eighteen, in_twenty_two}
+use Rattle.stepfile.proofs.TableLaws.{with_twenty_two, with_eighteen, without_entries}
 
 -- ---- what the checks of a good file tell
 pub record Good (len offset k from n r : ℕ) : Type 0 where
@@ -39,7 +39,7 @@ told len offset k from n r e =
       few = few k h.1.1.0;
       follow = omega (arith, tests);
       within = omega (arith, tests);
-      most = omega (arith, tests, most-between k);
+      most = omega (arith, tests, most_between k);
       whole = omega (arith, tests);
       admitted = omega (arith, tests);
     }
@@ -64,12 +64,12 @@ module _ (l : List ℕ) (h : Bytes l) where
       let two : suc (i + 1) ≡ i + 2 = omega arith in
       rw (low, high, drop-cons l i 0 (omega arith), one, drop-cons l (i + 1) 0 m, two)
 
-  pub numbers-written : (i m : ℕ) → i + 2 * m ≤ length l → bytes_of (u16s_at l i m) ++ drop (i + 2 * m) l ≡ drop i l
-  numbers-written i zero r = let same : i + 2 * 0 ≡ i = omega arith in ap (λ j. drop j l) same
-  numbers-written i (suc m) r =
+  pub numbers_written : (i m : ℕ) → i + 2 * m ≤ length l → bytes_of (u16s_at l i m) ++ drop (i + 2 * m) l ≡ drop i l
+  numbers_written i zero r = let same : i + 2 * 0 ≡ i = omega arith in ap (λ j. drop j l) same
+  numbers_written i (suc m) r =
       let next : i + 2 * suc m ≡ i + 2 + 2 * m = omega arith in
       ap (λ j. bytes_of (u16s_at l i (suc m)) ++ drop j l) next
-      ∙ ap (λ t. u16_at l i % 256 ∷ u16_at l i / 256 ∷ t) (numbers-written (i + 2) m (omega arith))
+      ∙ ap (λ t. u16_at l i % 256 ∷ u16_at l i / 256 ∷ t) (numbers_written (i + 2) m (omega arith))
       ∙ two_bytes i (omega arith)
 
 pub length-u16s_at : (l : List ℕ) (i m : ℕ) → length (u16s_at l i m) ≡ m
@@ -92,38 +92,38 @@ module _ (f : List ℕ) where
   k = table_entries f
 
   -- they are eighteen of a file without entries, and of one with twenty-two and four zeros
-  pub others-in-eighteen : OtherEntries f → length (entries_for (table_in f)) ≡ 18
-  others-in-eighteen (inl e) = ap (λ t. length (entries_for t)) (without-entries f e)
-  others-in-eighteen (inr z) = ap length (in-eighteen (table_in f) z.1)
+  pub others_in_eighteen : OtherEntries f → length (entries_for (table_in f)) ≡ 18
+  others_in_eighteen (inl e) = ap (λ t. length (entries_for t)) (without_entries f e)
+  others_in_eighteen (inr z) = ap length (in_eighteen (table_in f) z.1)
 
   module _ (h : 12 + 2 * k ≤ length f) where
-    eighteen-in : k ≡ 18 → entries_for (table_in f) ≡ u16s_at f 12 18
-    eighteen-in e = ap entries_for (with-eighteen f (omega arith) e)
+    eighteen_in : k ≡ 18 → entries_for (table_in f) ≡ u16s_at f 12 18
+    eighteen_in e = ap entries_for (with_eighteen f (omega arith) e)
 
     -- else they are the file's
-    pub entries-in : Few k → ¬ OtherEntries f → entries_for (table_in f) ≡ u16s_at f 12 k
-    entries-in (inl e) z = absurd (z (inl e))
-    entries-in (inr (inl e)) z = eighteen-in e ∙ ap (λ m. u16s_at f 12 m) (sym e)
-    entries-in (inr (inr e)) z =
-        in-twenty-two (table_in f) (λ n. z (inr (e, n)))
-        ∙ ap entries (with-twenty-two f (omega arith) e)
+    pub entries_in : Few k → ¬ OtherEntries f → entries_for (table_in f) ≡ u16s_at f 12 k
+    entries_in (inl e) z = absurd (z (inl e))
+    entries_in (inr (inl e)) z = eighteen_in e ∙ ap (λ m. u16s_at f 12 m) (sym e)
+    entries_in (inr (inr e)) z =
+        in_twenty_two (table_in f) (λ n. z (inr (e, n)))
+        ∙ ap entries (with_twenty_two f (omega arith) e)
         ∙ ap (λ m. u16s_at f 12 m) (sym e)
 
     -- as many records as the file may have the writer takes with its table
     most-fits : (n : ℕ) → Few k → n ≤ most_records k → n ≤ most_for (table_in f)
     most-fits n (inl e) m =
-        let same : most_for (table_in f) ≡ 16372 = ap most_for (without-entries f e) in
-        omega (arith, most-between k)
+        let same : most_for (table_in f) ≡ 16372 = ap most_for (without_entries f e) in
+        omega (arith, most_between k)
     most-fits n (inr (inl e)) m =
-        let same : most_for (table_in f) ≡ 16372 = ap (λ es. most_records (length es)) (eighteen-in e) in
-        omega (arith, most-between k)
+        let same : most_for (table_in f) ≡ 16372 = ap (λ es. most_records (length es)) (eighteen_in e) in
+        omega (arith, most_between k)
     most-fits n (inr (inr e)) m =
         let least : most_records k ≡ 16370 = ap most_records e in
-        omega (arith, most-between (length (entries_for (table_in f))))
+        omega (arith, most_between (length (entries_for (table_in f))))
 
 -- ---- a good file has no more records than the writer takes with its table
-pub no-more-than-written : (f : List ℕ) → (refusal_of f).number ≡ 0 → record_count f ≤ most_for (table_in f)
-no-more-than-written f z =
+pub no_more_than_written : (f : List ℕ) → (refusal_of f).number ≡ 0 → record_count f ≤ most_for (table_in f)
+no_more_than_written f z =
     let g = good-file f z in
     most-fits f (omega (arith, g.whole)) (record_count f) g.few g.within
 
@@ -134,4 +134,4 @@ pub assembled :
 assembled f es rs k n b l h e =
     ap (λ t. bytes_of (header_of k n) ++ t) (bytes_of-append es rs ∙ e)
     ∙ ap (λ t. bytes_of t ++ drop 12 f) h
-    ∙ numbers-written f b 0 6 l
+    ∙ numbers_written f b 0 6 l

@@ -49,9 +49,9 @@ module _ (t : Table) (cs ns out : List ℕ) where
     on : rest ≡ written_of t cs ns (length out)
     on = ap (λ a. after_lists a (broken_rule t) rest) (sym e)
 
-    pub at-record :
+    pub at_record :
         ¬ ((first_wrong 0 cs ns).number ≡ 0) → Leaves (refused_with (first_wrong 0 cs ns).number 0 (first_wrong 0 cs ns).index) out
-    at-record n =
+    at_record n =
         let x = first_wrong 0 cs ns in
         let there : refused_with x.number 0 x.index ≡ rest =
         ap (λ b. cond b (fitting (size_of t cs) (length out)) (refused_with x.number 0 x.index)) (sym (ne_eqb x.number 0 n))
@@ -83,32 +83,32 @@ module _ (t : Table) (cs ns out : List ℕ) where
           (same, ap (λ b. cond b (file_of t cs ns ++ drop (size_of t cs) out) out) (sym zero-there))
 
 -- ---- the amounts of records that read fit 16 bits
-plain-small : (x : Step) (n : ℕ) → refusal (plain x 0 n) ≡ 0 → n < 65536
-plain-small x n e =
+plain_small : (x : Step) (n : ℕ) → refusal (plain x 0 n) ≡ 0 → n < 65536
+plain_small x n e =
     case (eqb n 0) (λ z. let q = eqb-true n 0 z in omega arith) (λ z. let q = rw z at e in absurd (omega arith))
 
-tick-small : (n : ℕ) → refusal (ticking 0 n) ≡ 0 → n < 65536
-tick-small n e =
+tick_small : (n : ℕ) → refusal (ticking 0 n) ≡ 0 → n < 65536
+tick_small n e =
     case (leb n 65535)
     (λ z. let q = leb-true n 65535 z in omega arith)
     (λ z. case (leb 1 n) (λ y. let q = rw (y, z) at e in absurd (omega arith)) (λ y. let q = rw y at e in absurd (omega arith)))
 
-amount-small : (c n : ℕ) → refusal (reading c 0 n) ≡ 0 → n < 65536
-amount-small c n e =
+amount_small : (c n : ℕ) → refusal (reading c 0 n) ≡ 0 → n < 65536
+amount_small c n e =
     elim (dec_lt c 14) [
       | yes h ↦
           from (λ k. refusal (reading k 0 n) ≡ 0 → n < 65536) 0 14 (
             λ q. absurd (omega arith),
-            (plain-small _ n, (plain-small _ n, (plain-small _ n, (plain-small _ n, (plain-small _ n, (plain-small _ n, (plain-small _ n, (plain-small _ n, (plain-small _ n, (plain-small _ n, (plain-small _ n, (tick-small n, (plain-small _ n, tt))))))))))))),
+            (plain_small _ n, (plain_small _ n, (plain_small _ n, (plain_small _ n, (plain_small _ n, (plain_small _ n, (plain_small _ n, (plain_small _ n, (plain_small _ n, (plain_small _ n, (plain_small _ n, (tick_small n, (plain_small _ n, tt))))))))))))),
           ) c zero-le h e
       | no h ↦ let q = rw (get_or-eq_default (readings 0 n) WrongCode {n = c} (omega arith)) at e in absurd (omega arith)
     ]
 
-pub amounts-small : (i : ℕ) (cs ns : List ℕ) → length cs ≡ length ns → (first_wrong i cs ns).number ≡ 0 → (j : ℕ) → get_or ns j 0 < 65536
-amounts-small i [] [] e z j = omega arith
-amounts-small i [] (n ∷ ns) e z j = absurd (omega arith)
-amounts-small i (c ∷ cs) [] e z j = absurd (omega arith)
-amounts-small i (c ∷ cs) (n ∷ ns) e z zero =
-    amount-small c n (right (refusal (reading c 0 n)) i (first_wrong (suc i) cs ns) z).0
-amounts-small i (c ∷ cs) (n ∷ ns) e z (suc j) =
-    amounts-small (suc i) cs ns (omega arith) (right (refusal (reading c 0 n)) i (first_wrong (suc i) cs ns) z).1 j
+pub amounts_small : (i : ℕ) (cs ns : List ℕ) → length cs ≡ length ns → (first_wrong i cs ns).number ≡ 0 → (j : ℕ) → get_or ns j 0 < 65536
+amounts_small i [] [] e z j = omega arith
+amounts_small i [] (n ∷ ns) e z j = absurd (omega arith)
+amounts_small i (c ∷ cs) [] e z j = absurd (omega arith)
+amounts_small i (c ∷ cs) (n ∷ ns) e z zero =
+    amount_small c n (right (refusal (reading c 0 n)) i (first_wrong (suc i) cs ns) z).0
+amounts_small i (c ∷ cs) (n ∷ ns) e z (suc j) =
+    amounts_small (suc i) cs ns (omega arith) (right (refusal (reading c 0 n)) i (first_wrong (suc i) cs ns) z).1 j

@@ -16,17 +16,17 @@ use Rattle.checks.proofs.ConditionLaws.{first_of, one_of, of_left, of_right}
 use Rattle.checks.proofs.Tests.{tests, case, neqb→ne}
 use Rattle.limits.specs.Rules.{broken_rule}
 use Rattle.limits.specs.Refusals.{Admitted}
-use Rattle.limits.proofs.Refusals.{admitted, not-admitted}
+use Rattle.limits.proofs.Refusals.{admitted, not_admitted}
 use Rattle.stepfile.specs.declared.write.Wish.{Wish}
 use Rattle.stepfile.specs.declared.write.Wish.TheVariants.{Given, NoTable}
 use Rattle.stepfile.specs.declared.write.Wrong.{Wrong}
 use Rattle.stepfile.specs.declared.write.Written.{Written}
 use Rattle.stepfile.specs.Writing.{wished, entries_for, most_for, first_wrong, size_of, writable, refused_with, written_of, buffer_after, file_of}
 use Rattle.stepfile.specs.Refusals.{WrongAt, table_for, TooMany, WrittenWith, write_refusals, WriteAnswers}
-use Rattle.stepfile.proofs.EntryLaws.{past-most, within-most, written-with, with-no-others}
-use Rattle.stepfile.proofs.WriteLaws.{at-lists, at-record, at_room, written}
+use Rattle.stepfile.proofs.EntryLaws.{past-most, within-most, written-with, with_no_others}
+use Rattle.stepfile.proofs.WriteLaws.{at-lists, at_record, at_room, written}
 use Rattle.stepfile.proofs.FileRefusals.{ruled}
-use Rattle.stepfile.proofs.RecordRefusals.{found, same, one_number, five-or-six}
+use Rattle.stepfile.proofs.RecordRefusals.{found, same, one_number, five_or_six}
 
 -- ---- a write
 same-table : (w : Wish) → wished w ≡ table_for w
@@ -37,9 +37,9 @@ same-table NoTable = refl
 pub too_many : (w : Wish) (n : ℕ) → most_for (wished w) < n → (k : ℕ) × WrittenWith w k × TooMany k n
 too_many w n h = (length (entries_for (wished w)), written-with w, past-most (length (entries_for (wished w))) n h)
 
-pub not-too-many : (w : Wish) (n : ℕ) → n ≤ most_for (wished w) → ¬ ((k : ℕ) × WrittenWith w k × TooMany k n)
-not-too-many w n h q =
-    within-most (length (entries_for (wished w))) n h (subst (λ k. TooMany k n) (with-no-others w q.0 q.1) q.2)
+pub not_too_many : (w : Wish) (n : ℕ) → n ≤ most_for (wished w) → ¬ ((k : ℕ) × WrittenWith w k × TooMany k n)
+not_too_many w n h q =
+    within-most (length (entries_for (wished w))) n h (subst (λ k. TooMany k n) (with_no_others w q.0 q.1) q.2)
 
 module _ (w : Wish) (cs ns out : List ℕ) where
   abbrev list_refusals : List Condition
@@ -55,19 +55,19 @@ module _ (w : Wish) (cs ns out : List ℕ) where
   abbrev room_refusals : List Condition
   room_refusals = (((k : ℕ) × WrittenWith w k × (length out < 12 + 2 * k + 4 * length cs)) gives 15) ∷ []
 
-  lists-in-order : FirstOf list_refusals (first (writable (wished w) cs ns))
-  lists-in-order =
+  lists_in_order : FirstOf list_refusals (first (writable (wished w) cs ns))
+  lists_in_order =
       let rule = ap broken_rule (same-table w) in
       first_of (writable (wished w) cs ns) list_refusals (
         omega (arith, tests),
         (
           (
             λ t. too_many w (length cs) (omega (arith, tests)),
-            (λ t. not-too-many w (length cs) (omega (arith, tests)), refl),
+            (λ t. not_too_many w (length cs) (omega (arith, tests)), refl),
           ),
           (
             (
-              λ t. not-admitted (table_for w) (λ z. neqb→ne (broken_rule (wished w)) 0 t (rule ∙ z)),
+              λ t. not_admitted (table_for w) (λ z. neqb→ne (broken_rule (wished w)) 0 t (rule ∙ z)),
               (λ t n. n (admitted (table_for w) (sym rule ∙ eqb→eq (broken_rule (wished w)) 0 t)), refl),
             ),
             tt,
@@ -78,8 +78,8 @@ module _ (w : Wish) (cs ns out : List ℕ) where
   abbrev wrong : Wrong
   wrong = first_wrong 0 cs ns
 
-  records-in-order : length cs ≡ length ns → FirstOf order_refusals wrong.number
-  records-in-order e =
+  records_in_order : length cs ≡ length ns → FirstOf order_refusals wrong.number
+  records_in_order e =
       let f = found 0 cs ns e in
       case (eqb wrong.number 0)
       (λ t.
@@ -100,7 +100,7 @@ module _ (w : Wish) (cs ns out : List ℕ) where
             omega arith,
         inl ((at.0, subst (λ k. WrongAt cs ns k at.0) six at.2), six),
       ))
-      (five-or-six cs ns wrong.number at.0 at.2 n))
+      (five_or_six cs ns wrong.number at.0 at.2 n))
 
   abbrev Answers : Written → List ℕ → Type 0
   Answers r b = WriteAnswers w cs ns out r.number r.rule r.index r.length b
@@ -117,70 +117,70 @@ module _ (w : Wish) (cs ns out : List ℕ) where
   abbrev its_rule : ℕ
   its_rule = cond (eqb number 4) (broken_rule (wished w)) 0
 
-  list-rule : number ≡ 4 → (its_rule ≡ broken_rule (table_for w)) × ¬ (its_rule ≡ 0)
-  list-rule e =
+  list_rule : number ≡ 4 → (its_rule ≡ broken_rule (table_for w)) × ¬ (its_rule ≡ 0)
+  list_rule e =
       let before = (eqb (length cs) (length ns) ! 3) ∷ (leb (length cs) (most_for (wished w)) ! 2) ∷ [] in
       let last = (first-append 4 before ((eqb (broken_rule (wished w)) 0 ! 4) ∷ []) tt e).1 in
       let n : ¬ (broken_rule (wished w) ≡ 0) = λ z. let q = rw (eq-eqb (broken_rule (wished w)) 0 z) at last in omega arith in
       let own : its_rule ≡ broken_rule (wished w) = rw (eq-eqb number 4 e) in
       (own ∙ ap broken_rule (same-table w), λ z. n (sym own ∙ z))
 
-  by-lists : ¬ (number ≡ 0) → Answers (refused_with number its_rule 0) out
-  by-lists n =
+  by_lists : ¬ (number ≡ 0) → Answers (refused_with number its_rule 0) out
+  by_lists n =
       let most = at_most 4 (writable (wished w) cs ns) tt in
       record {
-        first = of_left list_refusals (order_refusals ++ room_refusals) number n lists-in-order;
+        first = of_left list_refusals (order_refusals ++ room_refusals) number n lists_in_order;
         numbers =
             ⊎_elim (λ e. inl e)
             (⊎_elim (λ e. inr (inr (inl e)))
             (⊎_elim (λ e. inr (inl e)) (⊎_elim (λ e. inr (inr (inr (inl e)))) (λ e. absurd e))))
-            (one_of list_refusals number lists-in-order);
-        rule-for = ruled (table_for w) number its_rule list-rule (λ q. rw (ne_eqb number 4 q));
-        index-with-5-and-6 = ⊎_elim (λ e. absurd (omega arith)) (λ e. absurd (omega arith));
-        index-else-0 = λ _. refl;
+            (one_of list_refusals number lists_in_order);
+        rule_for = ruled (table_for w) number its_rule list_rule (λ q. rw (ne_eqb number 4 q));
+        index_with_5_and_6 = ⊎_elim (λ e. absurd (omega arith)) (λ e. absurd (omega arith));
+        index_else_0 = λ _. refl;
         unchanged = λ _. (refl, refl);
       }
 
   -- not stopped by them
   module _ (z : number ≡ 0) where
     abbrev passed : FirstOf list_refusals 0
-    passed = subst (FirstOf list_refusals) z lists-in-order
+    passed = subst (FirstOf list_refusals) z lists_in_order
 
     as_long : length cs ≡ length ns
     as_long = let h = (first→holds 0 (writable (wished w) cs ns) tt z).0 in omega (arith, tests)
 
-    by-record : ¬ (wrong.number ≡ 0) → Answers (refused_with wrong.number 0 wrong.index) out
-    by-record n =
+    by_record : ¬ (wrong.number ≡ 0) → Answers (refused_with wrong.number 0 wrong.index) out
+    by_record n =
         let at = (found 0 cs ns as_long).there n in
-        let which = five-or-six cs ns wrong.number at.0 at.2 n in
+        let which = five_or_six cs ns wrong.number at.0 at.2 n in
         let there : at.0 ≡ wrong.index = omega (arith, at.1) in
         record {
           first =
               of_right list_refusals (order_refusals ++ room_refusals) wrong.number tt passed
-              (of_left order_refusals room_refusals wrong.number n (records-in-order as_long));
+              (of_left order_refusals room_refusals wrong.number n (records_in_order as_long));
           numbers =
               ⊎_elim (λ e. inr (inr (inr (inr (inl e))))) (λ e. inr (inr (inr (inr (inr (inl e)))))) which;
-          rule-for =
+          rule_for =
               ruled (table_for w) wrong.number 0 (λ e. ⊎_elim (λ q. absurd (omega arith)) (λ q. absurd (omega arith)) which) (λ _. refl);
-          index-with-5-and-6 = λ _. subst (WrongAt cs ns wrong.number) there at.2;
-          index-else-0 = λ q. absurd (q which);
+          index_with_5_and_6 = λ _. subst (WrongAt cs ns wrong.number) there at.2;
+          index_else_0 = λ q. absurd (q which);
           unchanged = λ _. (refl, refl);
         }
 
     module _ (y : wrong.number ≡ 0) where
-      by-room : (n : ℕ) → FirstOf room_refusals n → FirstOf (write_refusals w cs ns out) n
-      by-room n f =
+      by_room : (n : ℕ) → FirstOf room_refusals n → FirstOf (write_refusals w cs ns out) n
+      by_room n f =
           of_right list_refusals (order_refusals ++ room_refusals) n tt passed
-          (of_right order_refusals room_refusals n tt (subst (FirstOf order_refusals) y (records-in-order as_long)) f)
+          (of_right order_refusals room_refusals n tt (subst (FirstOf order_refusals) y (records_in_order as_long)) f)
 
       no_room : length out < size_of (wished w) cs → Answers (refused_with 15 0 0) out
       no_room l =
           record {
-            first = by-room 15 (inl ((length (entries_for (wished w)), written-with w, l), refl));
+            first = by_room 15 (inl ((length (entries_for (wished w)), written-with w, l), refl));
             numbers = inr (inr (inr (inr (inr (inr (inl refl))))));
-            rule-for = ruled (table_for w) 15 0 (λ e. absurd (omega arith)) (λ _. refl);
-            index-with-5-and-6 = ⊎_elim (λ e. absurd (omega arith)) (λ e. absurd (omega arith));
-            index-else-0 = λ _. refl;
+            rule_for = ruled (table_for w) 15 0 (λ e. absurd (omega arith)) (λ _. refl);
+            index_with_5_and_6 = ⊎_elim (λ e. absurd (omega arith)) (λ e. absurd (omega arith));
+            index_else_0 = λ _. refl;
             unchanged = λ _. (refl, refl);
           }
 
@@ -189,16 +189,16 @@ module _ (w : Wish) (cs ns out : List ℕ) where
           → Answers (record { number = 0; rule = 0; index = 0; length = size }) b
       accepted size b l =
           record {
-            first = by-room 0 (inr (λ q. omega (arith, with-no-others w q.0 q.1, q.2), refl));
+            first = by_room 0 (inr (λ q. omega (arith, with_no_others w q.0 q.1, q.2), refl));
             numbers = inl refl;
-            rule-for = ruled (table_for w) 0 0 (λ e. absurd (omega arith)) (λ _. refl);
-            index-with-5-and-6 = ⊎_elim (λ e. absurd (omega arith)) (λ e. absurd (omega arith));
-            index-else-0 = λ _. refl;
+            rule_for = ruled (table_for w) 0 0 (λ e. absurd (omega arith)) (λ _. refl);
+            index_with_5_and_6 = ⊎_elim (λ e. absurd (omega arith)) (λ e. absurd (omega arith));
+            index_else_0 = λ _. refl;
             unchanged = λ n. absurd (n refl);
           }
 
-  pub write-answers : Answers (written_of (wished w) cs ns (length out)) (buffer_after (wished w) cs ns out)
-  write-answers =
+  pub write_answers : Answers (written_of (wished w) cs ns (length out)) (buffer_after (wished w) cs ns out)
+  write_answers =
       let done : Written = record { number = 0; rule = 0; index = 0; length = size_of (wished w) cs } in
       let file = file_of (wished w) cs ns ++ drop (size_of (wished w) cs) out in
       case (eqb number 0)
@@ -216,7 +216,7 @@ module _ (w : Wish) (cs ns out : List ℕ) where
       carried (refused_with 15 0 0) out (at_room (wished w) cs ns out z y past) (no_room z y past)))
       (λ u.
       let n = eqb-false wrong.number 0 u in
-      carried (refused_with wrong.number 0 wrong.index) out (at-record (wished w) cs ns out z n) (by-record z n)))
+      carried (refused_with wrong.number 0 wrong.index) out (at_record (wished w) cs ns out z n) (by_record z n)))
       (λ t.
       let n = eqb-false number 0 t in
-      carried (refused_with number its_rule 0) out (at-lists (wished w) cs ns out number refl n) (by-lists n))
+      carried (refused_with number its_rule 0) out (at-lists (wished w) cs ns out number refl n) (by_lists n))

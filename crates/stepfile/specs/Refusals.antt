@@ -14,8 +14,8 @@ use Rattle.stepfile.specs.declared.write.Wish.TheVariants.{Given, NoTable}
 
 -- the rule's number: with 4 that of the first rule that the table breaks, else 0
 pub record RuleFor (t : Table) (number rule : ℕ) : Type 0 where
-  pub with-4 : number ≡ 4 → FirstOf (broken t) rule × (1 ≤ rule) × (rule ≤ 16)
-  pub else-0 : ¬ (number ≡ 4) → rule ≡ 0
+  pub with_4 : number ≡ 4 → FirstOf (broken t) rule × (1 ≤ rule) × (rule ≤ 16)
+  pub else_0 : ¬ (number ≡ 4) → rule ≡ 0
 
 -- ---- a file
 
@@ -84,7 +84,7 @@ file_refusals f =
 pub record FileAnswers (f : List ℕ) (number rule : ℕ) : Type 0 where
   pub first : FirstOf (file_refusals f) number
   pub numbers : number ≤ 4
-  pub rule-for : RuleFor (table_behind f) number rule
+  pub rule_for : RuleFor (table_behind f) number rule
 
 -- where the record at an index stands: behind the header, the table's entries and the records before it
 abbrev pub place : List ℕ → ℕ → ℕ
@@ -93,9 +93,9 @@ place f index = 12 + 2 * bits16 f 2 + 4 * index
 -- a good file with this table and these records: as many as the header says, and each is what its code, its middle byte and its
 -- amount mean
 pub record FileHolds (f : List ℕ) (t : Table) (records : List Reading) : Type 0 where
-  pub without-entries : bits16 f 2 ≡ 0 → t ≡ by_old_default
-  pub with-eighteen : bits16 f 2 ≡ 18 → t ≡ short_table f
-  pub with-twenty-two : bits16 f 2 ≡ 22 → t ≡ long_table f
+  pub without_entries : bits16 f 2 ≡ 0 → t ≡ by_old_default
+  pub with_eighteen : bits16 f 2 ≡ 18 → t ≡ short_table f
+  pub with_twenty_two : bits16 f 2 ≡ 22 → t ≡ long_table f
   pub count : length records ≡ bits32 f 8
   pub each :
       (i : ℕ) → i < length records
@@ -134,7 +134,7 @@ write_refusals wish codes amounts out =
 pub record WriteAnswers (wish : Wish) (codes amounts out : List ℕ) (number rule index size : ℕ) (after : List ℕ) : Type 0 where
   pub first : FirstOf (write_refusals wish codes amounts out) number
   pub numbers : OneOf (0 ∷ 2 ∷ 3 ∷ 4 ∷ 5 ∷ 6 ∷ 15 ∷ []) number
-  pub rule-for : RuleFor (table_for wish) number rule
-  pub index-with-5-and-6 : (number ≡ 5) ⊎ (number ≡ 6) → WrongAt codes amounts number index
-  pub index-else-0 : ¬ ((number ≡ 5) ⊎ (number ≡ 6)) → index ≡ 0
+  pub rule_for : RuleFor (table_for wish) number rule
+  pub index_with_5_and_6 : (number ≡ 5) ⊎ (number ≡ 6) → WrongAt codes amounts number index
+  pub index_else_0 : ¬ ((number ≡ 5) ⊎ (number ≡ 6)) → index ≡ 0
   pub unchanged : ¬ (number ≡ 0) → (size ≡ 0) × (after ≡ out)

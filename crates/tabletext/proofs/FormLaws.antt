@@ -39,18 +39,18 @@ past_all c (x ∷ xs) ys h s =
     rw (passed (holds c x) (left (holds c x) (all c xs) h)) (past_all c xs ys (right (holds c x) (all c xs) h) s)
 
 -- ---- blanks, a word, and what stands behind it
-letter-no-blank : (b : ℕ) → T (holds Letter b) → T (stops Blank (b ∷ []))
-letter-no-blank b h = left (not (holds Blank b)) (not (eqb b 10) && not (eqb b 35)) h
+letter_no_blank : (b : ℕ) → T (holds Letter b) → T (stops Blank (b ∷ []))
+letter_no_blank b h = left (not (holds Blank b)) (not (eqb b 10) && not (eqb b 35)) h
 
 module _ (pre : List ℕ) (b : ℕ) (bs rest : List ℕ) (p : T (all Blank pre)) (w : T (all Letter (b ∷ bs))) (s : T (stops Letter rest)) where
   begins : past Blank (pre ++ ((b ∷ bs) ++ rest)) ≡ (b ∷ bs) ++ rest
-  begins = past_all Blank pre ((b ∷ bs) ++ rest) p (letter-no-blank b (left (holds Letter b) (all Letter bs) w))
+  begins = past_all Blank pre ((b ∷ bs) ++ rest) p (letter_no_blank b (left (holds Letter b) (all Letter bs) w))
 
-  word-is : word (pre ++ ((b ∷ bs) ++ rest)) ≡ b ∷ bs
-  word-is = ap (leading Letter) begins ∙ leading-all Letter (b ∷ bs) rest w s
+  word_is : word (pre ++ ((b ∷ bs) ++ rest)) ≡ b ∷ bs
+  word_is = ap (leading Letter) begins ∙ leading-all Letter (b ∷ bs) rest w s
 
-  behind-is : behind (pre ++ ((b ∷ bs) ++ rest)) ≡ rest
-  behind-is = ap (past Letter) begins ∙ past_all Letter (b ∷ bs) rest w s
+  behind_is : behind (pre ++ ((b ∷ bs) ++ rest)) ≡ rest
+  behind_is = ap (past Letter) begins ∙ past_all Letter (b ∷ bs) rest w s
 
 -- ---- a comment, or nothing, has no word, with blanks before it or without
 abbrev pub commented : List ℕ → Bool
@@ -75,8 +75,8 @@ ends [] c p h = (comment-stops c h).1
 ends (b ∷ bs) c p h = blank-ends b (left (holds Blank b) (all Blank bs) p)
 
 -- ---- digits stand in a word
-digit-letter : (b : ℕ) → T (digit b) → T (holds Letter b)
-digit-letter b h =
+digit_letter : (b : ℕ) → T (digit b) → T (holds Letter b)
+digit_letter b h =
     let low = leb→le 48 b (left (leb 48 b) (leb b 57) h) in
     rw (
       ne_eqb b 32 (λ e. absurd (omega arith)),
@@ -86,10 +86,10 @@ digit-letter b h =
       ne_eqb b 35 (λ e. absurd (omega arith)),
     ) tt
 
-digits-letters : (ds : List ℕ) → T (all_digits ds) → T (all Letter ds)
-digits-letters [] h = tt
-digits-letters (d ∷ ds) h =
-    both (holds Letter d) (all Letter ds) (digit-letter d (left (digit d) (all_digits ds) h)) (digits-letters ds (right (digit d) (all_digits ds) h))
+digits_letters : (ds : List ℕ) → T (all_digits ds) → T (all Letter ds)
+digits_letters [] h = tt
+digits_letters (d ∷ ds) h =
+    both (holds Letter d) (all Letter ds) (digit_letter d (left (digit d) (all_digits ds) h)) (digits_letters ds (right (digit d) (all_digits ds) h))
 
 number_is : (d : ℕ) (ds : List ℕ) → T (all_digits (d ∷ ds)) → number_of (d ∷ ds) ≡ capped (value_from 0 (d ∷ ds))
 number_is d ds h = rw (ne_eqb (length (d ∷ ds)) 0 (λ e. absurd (omega arith)), passed (all_digits (d ∷ ds)) h)
@@ -98,11 +98,11 @@ number_is d ds h = rw (ne_eqb (length (d ∷ ds)) 0 (λ e. absurd (omega arith))
 abbrev told : List ℕ → ℕ → Bool
 told w i = all Letter w && eqb (place w names) i
 
-each-told : (i : ℕ) → i < 22 → T (told (name i) i)
-each-told = below (λ i. T (told (name i) i)) 22 (omega arith)
+each_told : (i : ℕ) → i < 22 → T (told (name i) i)
+each_told = below (λ i. T (told (name i) i)) 22 (omega arith)
 
-each-there : (i : ℕ) → i < 22 → T (not (eqb (length (name i)) 0))
-each-there = below (λ i. T (not (eqb (length (name i)) 0))) 22 (omega arith)
+each_there : (i : ℕ) → i < 22 → T (not (eqb (length (name i)) 0))
+each_there = below (λ i. T (not (eqb (length (name i)) 0))) 22 (omega arith)
 
 -- ---- a line: blanks, a name, and what is no part of it
 named : (i : ℕ) (pre w rest : List ℕ) → i < 22 → T (told w i) → ¬ (length w ≡ 0) → T (all Blank pre) → T (stops Letter rest)
@@ -113,16 +113,16 @@ named i pre (b ∷ bs) rest k t z p s =
     let l = left (all Letter (b ∷ bs)) (eqb (place (b ∷ bs) names) i) t in
     let e = eqb→eq (place (b ∷ bs) names) i (right (all Letter (b ∷ bs)) (eqb (place (b ∷ bs) names) i) t) in
     rw (
-      word-is pre b bs rest p l s,
-      behind-is pre b bs rest p l s,
+      word_is pre b bs rest p l s,
+      behind_is pre b bs rest p l s,
       e,
       ne_eqb (length (b ∷ bs)) 0 (λ f. absurd (omega arith)),
       ne_eqb i 22 (λ f. absurd (omega arith)),
     )
 
-pub named-line : (i : ℕ) (pre rest : List ℕ) → i < 22 → T (all Blank pre) → T (stops Letter rest)
+pub named_line : (i : ℕ) (pre rest : List ℕ) → i < 22 → T (all Blank pre) → T (stops Letter rest)
     → line_of (pre ++ (name i ++ rest)) ≡ Entry i (number_behind rest)
-named-line i pre rest k p s = named i pre (name i) rest k (each-told i k) (neqb→ne (length (name i)) 0 (each-there i k)) p s
+named_line i pre rest k p s = named i pre (name i) rest k (each_told i k) (neqb→ne (length (name i)) 0 (each_there i k)) p s
 
 -- ---- and this is blanks, digits, blanks, a comment or none
 module _
@@ -136,16 +136,16 @@ module _
     (r : T (all Blank post))
     (h : T (commented c))
   where
-    abbrev value-part : List ℕ
-    value-part = (g ∷ gap) ++ ((d ∷ ds) ++ (post ++ c))
+    abbrev value_part : List ℕ
+    value_part = (g ∷ gap) ++ ((d ∷ ds) ++ (post ++ c))
 
-    behind-the-name : number_behind value-part ≡ capped (value_from 0 (d ∷ ds))
-    behind-the-name =
-        let l = digits-letters (d ∷ ds) n in
+    behind_the_name : number_behind value_part ≡ capped (value_from 0 (d ∷ ds))
+    behind_the_name =
+        let l = digits_letters (d ∷ ds) n in
         let s = ends post c r h in
-        let further = ap word (behind-is (g ∷ gap) d ds (post ++ c) q l s) ∙ no_word post c r h in
-        rw (further, word-is (g ∷ gap) d ds (post ++ c) q l s) (number_is d ds n)
+        let further = ap word (behind_is (g ∷ gap) d ds (post ++ c) q l s) ∙ no_word post c r h in
+        rw (further, word_is (g ∷ gap) d ds (post ++ c) q l s) (number_is d ds n)
 
     -- the entry of this number, and this value
-    pub line-says : i < 22 → line_of (pre ++ (name i ++ value-part)) ≡ Entry i (capped (value_from 0 (d ∷ ds)))
-    line-says k = named-line i pre value-part k p (blank-ends g (left (holds Blank g) (all Blank gap) q)) ∙ ap (Entry i) behind-the-name
+    pub line_says : i < 22 → line_of (pre ++ (name i ++ value_part)) ≡ Entry i (capped (value_from 0 (d ∷ ds)))
+    line_says k = named_line i pre value_part k p (blank-ends g (left (holds Blank g) (all Blank gap) q)) ∙ ap (Entry i) behind_the_name

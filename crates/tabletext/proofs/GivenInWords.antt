@@ -14,61 +14,61 @@ use Rattle.checks.proofs.Ranges.{below, from}
 use Rattle.checks.proofs.Tests.{case, passed, passes, Tests, equal, all_of}
 use Rattle.limits.specs.declared.Table.{Table}
 use Rattle.limits.specs.Limits.{entries, entry, table_of}
-use Rattle.limits.proofs.EntryLaws.{of-twenty-two}
+use Rattle.limits.proofs.EntryLaws.{of_twenty_two}
 use Rattle.tabletext.specs.Texts.{not_given, nothing_given, absent_from, undelayed, wanted, missing, or_zero}
 use Rattle.tabletext.specs.Form.{NotGiven, Giving}
 
 -- ---- lines leave twenty-two entries
-pub kept-length : (ls : List (List ℕ)) (given after : List ℕ) → Giving ls given after → length after ≡ length given
-kept-length [] given after e = ap length (sym e)
-kept-length (l ∷ ls) given after h =
+pub kept_length : (ls : List (List ℕ)) (given after : List ℕ) → Giving ls given after → length after ≡ length given
+kept_length [] given after e = ap length (sym e)
+kept_length (l ∷ ls) given after h =
     ⊎_elim
-    (λ s. kept-length ls given after s.1)
-    (λ g. kept-length ls (set given g.entry g.value) after g.rest ∙ length-set given g.entry g.value)
+    (λ s. kept_length ls given after s.1)
+    (λ g. kept_length ls (set given g.entry g.value) after g.rest ∙ length-set given g.entry g.value)
     h
 
 -- ---- and values within 16 bits, but for those that are not given
 abbrev pub Bounded : List ℕ → Type 0
 Bounded g = (i : ℕ) → i < 22 → get_or g i 0 ≤ 65536
 
-set-bounded : (g : List ℕ) (e v : ℕ) → e < length g → v ≤ 65535 → Bounded g → Bounded (set g e v)
-set-bounded g e v k h b i l =
+set_bounded : (g : List ℕ) (e v : ℕ) → e < length g → v ≤ 65535 → Bounded g → Bounded (set g e v)
+set_bounded g e v k h b i l =
     case (eqb i e)
     (λ t. let same = eqb-true i e t in rw (same, get_or-set_same g e v 0 k) (omega arith))
     (λ t. rw (get_or-set_other g e i v 0 (eqb-false i e t)) (b i l))
 
-stays-bounded : (ls : List (List ℕ)) (given after : List ℕ) → length given ≡ 22 → Giving ls given after → Bounded given → Bounded after
-stays-bounded [] given after n e b = subst Bounded e b
-stays-bounded (l ∷ ls) given after n h b =
+stays_bounded : (ls : List (List ℕ)) (given after : List ℕ) → length given ≡ 22 → Giving ls given after → Bounded given → Bounded after
+stays_bounded [] given after n e b = subst Bounded e b
+stays_bounded (l ∷ ls) given after n h b =
     ⊎_elim
-    (λ s. stays-bounded ls given after n s.1 b)
+    (λ s. stays_bounded ls given after n s.1 b)
     (λ g.
-    let below-22 = g.an-entry in
-    stays-bounded ls (set given g.entry g.value) after (length-set given g.entry g.value ∙ n) g.rest
-    (set-bounded given g.entry g.value (omega (arith, n, below-22)) g.fits b))
+    let below-22 = g.an_entry in
+    stays_bounded ls (set given g.entry g.value) after (length-set given g.entry g.value ∙ n) g.rest
+    (set_bounded given g.entry g.value (omega (arith, n, below-22)) g.fits b))
     h
 
-nothing-bounded : Bounded nothing_given
-nothing-bounded = below (λ i. get_or nothing_given i 0 ≤ 65536) 22 (omega arith)
+nothing_bounded : Bounded nothing_given
+nothing_bounded = below (λ i. get_or nothing_given i 0 ≤ 65536) 22 (omega arith)
 
 pub bounded : (ls : List (List ℕ)) (after : List ℕ) → Giving ls nothing_given after → Bounded after
-bounded ls after g = stays-bounded ls nothing_given after refl g nothing-bounded
+bounded ls after g = stays_bounded ls nothing_given after refl g nothing_bounded
 
 -- ---- the first that is absent: it is, all before it are given, and so many as are given come before it
 starts : (i : ℕ) (g : List ℕ) → i ≤ absent_from i g
 starts i [] = omega arith
 starts i (v ∷ vs) = case (eqb v not_given) (λ t. rw t (omega arith)) (λ t. rw t (omega (arith, starts (suc i) vs)))
 
-absent-there : (i j : ℕ) (g : List ℕ) → absent_from i g ≡ i + j → j < length g → NotGiven g j
-absent-there i j [] e h = absurd (omega arith)
-absent-there i zero (v ∷ vs) e h =
+absent_there : (i j : ℕ) (g : List ℕ) → absent_from i g ≡ i + j → j < length g → NotGiven g j
+absent_there i j [] e h = absurd (omega arith)
+absent_there i zero (v ∷ vs) e h =
     case (eqb v not_given)
     (λ t. eqb-true v not_given t)
     (λ t. let f = rw t at e in absurd (omega (arith, f, starts (suc i) vs)))
-absent-there i (suc j) (v ∷ vs) e h =
+absent_there i (suc j) (v ∷ vs) e h =
     case (eqb v not_given)
     (λ t. let f = rw t at e in absurd (omega (arith, f)))
-    (λ t. let f = rw t at e in absent-there (suc i) j vs (omega (arith, f)) (omega arith))
+    (λ t. let f = rw t at e in absent_there (suc i) j vs (omega (arith, f)) (omega arith))
 
 at_least : (i k : ℕ) (g : List ℕ) → k ≤ length g → ((j : ℕ) → j < k → ¬ NotGiven g j) → i + k ≤ absent_from i g
 at_least i zero g l h = omega (arith, starts i g)
@@ -111,8 +111,8 @@ module _ (g : List ℕ) where
   wanted-fits = case none-delayed (λ t. rw t (omega arith, omega arith)) (λ t. rw t (omega arith, omega arith))
 
   -- enough are given: what lines that say a table give, and nothing else
-  pub enough-given : length g ≡ 22 → Limits g → Delays g ⊎ NoDelays g → wanted g ≤ absent_from 0 g
-  enough-given n l =
+  pub enough_given : length g ≡ 22 → Limits g → Delays g ⊎ NoDelays g → wanted g ≤ absent_from 0 g
+  enough_given n l =
       ⊎_elim
       (λ d. omega (arith, wanted-fits.1, at_least 0 22 g (omega (arith, n)) (λ j h. ⊎_elim (λ k. l j k) (λ k. d j k h) (sides j))))
       (λ d.
@@ -131,8 +131,8 @@ module _ (g : List ℕ) where
       (λ t. inr (delays-tested.read (passes none-delayed t)))
       (λ t. let all : 22 ≤ absent_from 0 g = rw t at h in inl (λ i l k. before-absent 0 i g (omega (arith, all))))
 
-  pub none-is-missing : 22 ≤ missing g → wanted g ≤ absent_from 0 g
-  none-is-missing m =
+  pub none_is_missing : 22 ≤ missing g → wanted g ≤ absent_from 0 g
+  none_is_missing m =
       case (ltb (absent_from 0 g) (wanted g))
       (λ c. let l = ltb-true (absent_from 0 g) (wanted g) c in let f : 22 ≤ absent_from 0 g = rw c at m in absurd (omega (arith, l, f, wanted-fits.1)))
       (λ c. ltb-false (absent_from 0 g) (wanted g) c)
@@ -157,15 +157,15 @@ module _ (g : List ℕ) where
 
       here : absent_from 0 g < wanted g → FirstMissing (absent_from 0 g)
       here l = record {
-        absent = absent-there 0 (absent_from 0 g) g (omega arith) (omega (arith, l, n, wanted-fits.1));
+        absent = absent_there 0 (absent_from 0 g) g (omega arith) (omega (arith, l, n, wanted-fits.1));
         none_before = λ i k. before-absent 0 i g (omega arith);
         wanted = asked l;
       }
 
 -- ---- the table of the entries that are given
-pub of-given : (t : Table) (g : List ℕ) → length g ≡ 22 → Bounded g → ((i : ℕ) → i < 22 → ¬ NotGiven g i → entry t i ≡ get_or g i 0)
+pub of_given : (t : Table) (g : List ℕ) → length g ≡ 22 → Bounded g → ((i : ℕ) → i < 22 → ¬ NotGiven g i → entry t i ≡ get_or g i 0)
     → ((i : ℕ) → i < 22 → NotGiven g i → entry t i ≡ 0) → table_of (map or_zero g) ≡ t
-of-given t g n b there absent = ap table_of (ext_get_or 0 (map or_zero g) (entries t) (length-map g or_zero ∙ n) each)
+of_given t g n b there absent = ap table_of (ext_get_or 0 (map or_zero g) (entries t) (length-map g or_zero ∙ n) each)
   where
     each : (i : ℕ) → i < length (map or_zero g) → get_or (map or_zero g) i 0 ≡ entry t i
     each i h =
@@ -179,11 +179,11 @@ of-given t g n b there absent = ap table_of (ext_get_or 0 (map or_zero g) (entri
         rw (le-leb (get_or g i 0) 65535 (omega (arith, small, some))) (sym (there i k some)))
 
 module _ (g : List ℕ) (t : Table) (q : table_of (map or_zero g) ≡ t) where
-  entry-is : (i : ℕ) → i < 22 → entry t i ≡ or_zero (get_or g i 0)
-  entry-is i k = ap (λ u. entry u i) (sym q) ∙ sym (of-twenty-two (map or_zero g) i k) ∙ get_or-map or_zero g i 0
+  entry_is : (i : ℕ) → i < 22 → entry t i ≡ or_zero (get_or g i 0)
+  entry_is i k = ap (λ u. entry u i) (sym q) ∙ sym (of_twenty_two (map or_zero g) i k) ∙ get_or-map or_zero g i 0
 
-  pub is-there : Bounded g → (i : ℕ) → i < 22 → ¬ NotGiven g i → entry t i ≡ get_or g i 0
-  is-there b i k m = let small = b i k in entry-is i k ∙ rw (le-leb (get_or g i 0) 65535 (omega (arith, small, m)))
+  pub is_there : Bounded g → (i : ℕ) → i < 22 → ¬ NotGiven g i → entry t i ≡ get_or g i 0
+  is_there b i k m = let small = b i k in entry_is i k ∙ rw (le-leb (get_or g i 0) 65535 (omega (arith, small, m)))
 
-  pub is-absent : (i : ℕ) → i < 22 → NotGiven g i → entry t i ≡ 0
-  is-absent i k m = entry-is i k ∙ rw m
+  pub is_absent : (i : ℕ) → i < 22 → NotGiven g i → entry t i ≡ 0
+  is_absent i k m = entry_is i k ∙ rw m

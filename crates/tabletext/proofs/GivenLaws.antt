@@ -10,11 +10,11 @@ use borrow.Author.Tests.{eq-eqb, ne_eqb}
 use Rattle.tabletext.specs.Texts.{not_given, absent_from, or_zero}
 
 module _ (given : List ℕ) (i : ℕ) where
-  pub absent-here : i < length given → get_or given i 0 ≡ not_given → absent_from i (drop i given) ≡ i
-  absent-here h e = rw (drop-cons given i 0 h, eq-eqb (get_or given i 0) not_given e)
+  pub absent_here : i < length given → get_or given i 0 ≡ not_given → absent_from i (drop i given) ≡ i
+  absent_here h e = rw (drop-cons given i 0 h, eq-eqb (get_or given i 0) not_given e)
 
-  pub given-here : i < length given → ¬ (get_or given i 0 ≡ not_given) → absent_from i (drop i given) ≡ absent_from (suc i) (drop (suc i) given)
-  given-here h e = rw (drop-cons given i 0 h, ne_eqb (get_or given i 0) not_given e)
+  pub given_here : i < length given → ¬ (get_or given i 0 ≡ not_given) → absent_from i (drop i given) ≡ absent_from (suc i) (drop (suc i) given)
+  given_here h e = rw (drop-cons given i 0 h, ne_eqb (get_or given i 0) not_given e)
 
   pub all-given : i ≡ length given → absent_from i (drop i given) ≡ i
   all-given e = rw (e, drop-length given)

@@ -10,7 +10,7 @@ use native.Mathlib.Omega.{arith}
 use lib.Dec.{T, leb, eqb, eqb→eq}
 use lib.ListN.{length, get_or}
 use borrow.Author.Tests.{le-leb, leb-true, leb-false, eqb-true, eqb-false, ne_eqb, not-true}
-use Rattle.checks.proofs.Tests.{case, passed, passes, left, right, both, eq→eqb, neqb→ne, Tests, nothing-to-test, most, equal, all_of, some_of}
+use Rattle.checks.proofs.Tests.{case, passed, passes, left, right, both, eq→eqb, neqb→ne, Tests, nothing_to_test, most, equal, all_of, some_of}
 use Rattle.tablewords.specs.declared.Class.{Class}
 use Rattle.tablewords.specs.declared.Class.TheVariants.{Blank, Letter}
 use Rattle.tabletext.specs.declared.Said.{Said}
@@ -19,19 +19,19 @@ use Rattle.tablewords.specs.Words.{above, none, holds, leading, past, word, behi
 use Rattle.tablewords.specs.Names.{names, name, same, place, entry_named}
 use Rattle.tabletext.specs.Texts.{number_behind, named, entry_in, line_of}
 use Rattle.tabletext.specs.Form.{IsBlank, Blanks, OneLine, Comment, Digits, worth, Silent, Telling, Past, Naming, TooLarge}
-use Rattle.tabletext.proofs.FormLaws.{all, stops, leading-all, commented, no_word, blank-ends, named-line, line-says}
+use Rattle.tabletext.proofs.FormLaws.{all, stops, leading-all, commented, no_word, blank-ends, named_line, line_says}
 
 -- ---- the words are tested
 blank-tested : (b : ℕ) → Tests (holds Blank b) (IsBlank b)
 blank-tested b = some_of equal (some_of equal equal)
 
-blanks-tested : (l : List ℕ) → Tests (all Blank l) (Blanks l)
-blanks-tested [] = nothing-to-test
-blanks-tested (b ∷ bs) = all_of (blank-tested b) (blanks-tested bs)
+blanks_tested : (l : List ℕ) → Tests (all Blank l) (Blanks l)
+blanks_tested [] = nothing_to_test
+blanks_tested (b ∷ bs) = all_of (blank-tested b) (blanks_tested bs)
 
-digits-tested : (ds : List ℕ) → Tests (all_digits ds) (Digits ds)
-digits-tested [] = nothing-to-test
-digits-tested (d ∷ ds) = all_of (all_of most most) (digits-tested ds)
+digits_tested : (ds : List ℕ) → Tests (all_digits ds) (Digits ds)
+digits_tested [] = nothing_to_test
+digits_tested (d ∷ ds) = all_of (all_of most most) (digits_tested ds)
 
 comments : (l : List ℕ) → Comment l → T (commented l)
 comments [] h = tt
@@ -48,37 +48,37 @@ valued v (d ∷ ds) =
     ∙ add_assoc (v * 10 * p) (x * p) (worth ds)
     ∙ ap (λ n. n + (x * p + worth ds)) (mul_assoc v 10 p ∙ ap (λ n. v * n) (sym (pow-succ' 10 (length ds))))
 
-value-is : (ds : List ℕ) → value_from 0 ds ≡ worth ds
-value-is ds = let none : 0 * 10 ^ length ds ≡ 0 = zero-mul (10 ^ length ds) in valued 0 ds ∙ omega (arith, none)
+value_is : (ds : List ℕ) → value_from 0 ds ≡ worth ds
+value_is ds = let none : 0 * 10 ^ length ds ≡ 0 = zero-mul (10 ^ length ds) in valued 0 ds ∙ omega (arith, none)
 
 -- ---- a line of the form is read so
-of-the-form :
+of_the_form :
     (pre gap ds post c : List ℕ) (i : ℕ) → T (all Blank pre) → T (all Blank gap) → T (all_digits ds) → T (all Blank post) → T (commented c)
     → 1 ≤ length gap → 1 ≤ length ds → i < 22
     → line_of (pre ++ (name i ++ (gap ++ (ds ++ (post ++ c))))) ≡ Entry i (capped (value_from 0 ds))
-of-the-form pre [] ds post c i p q n r h g d k = absurd (omega arith)
-of-the-form pre (b ∷ gap) [] post c i p q n r h g d k = absurd (omega arith)
-of-the-form pre (b ∷ gap) (e ∷ ds) post c i p q n r h g d k = line-says pre gap post c b e ds i p q n r h k
+of_the_form pre [] ds post c i p q n r h g d k = absurd (omega arith)
+of_the_form pre (b ∷ gap) [] post c i p q n r h g d k = absurd (omega arith)
+of_the_form pre (b ∷ gap) (e ∷ ds) post c i p q n r h g d k = line_says pre gap post c b e ds i p q n r h k
 
-pub a-telling-line-is-read : (i v : ℕ) (l : List ℕ) → i < 22 → Telling i v l → line_of l ≡ Entry i (capped v)
-a-telling-line-is-read i v l k t =
+pub a_telling_line_is_read : (i v : ℕ) (l : List ℕ) → i < 22 → Telling i v l → line_of l ≡ Entry i (capped v)
+a_telling_line_is_read i v l k t =
     ap line_of t.line
-    ∙ of-the-form t.before t.between t.digits t.behind t.comment i ((blanks-tested t.before).shown t.blank.0) ((blanks-tested t.between).shown t.blank.1.0)
-    ((digits-tested t.digits).shown t.number) ((blanks-tested t.behind).shown t.blank.1.1) (comments t.comment t.commented) t.apart t.some k
-    ∙ ap (λ n. Entry i (capped n)) (value-is t.digits ∙ t.value)
+    ∙ of_the_form t.before t.between t.digits t.behind t.comment i ((blanks_tested t.before).shown t.blank.0) ((blanks_tested t.between).shown t.blank.1.0)
+    ((digits_tested t.digits).shown t.number) ((blanks_tested t.behind).shown t.blank.1.1) (comments t.comment t.commented) t.apart t.some k
+    ∙ ap (λ n. Entry i (capped n)) (value_is t.digits ∙ t.value)
 
 past-stops : (r : List ℕ) → Past r → T (stops Letter r)
 past-stops [] h = tt
 past-stops (b ∷ bs) h = ⊎_elim (λ w. blank-ends b ((blank-tested b).shown w)) (λ e. rw e tt) h
 
-pub a-naming-line-is-read : (i : ℕ) (l : List ℕ) → i < 22 → (n : Naming i l) → line_of l ≡ Entry i (number_behind n.behind)
-a-naming-line-is-read i l k n =
-    ap line_of n.line ∙ named-line i n.before n.behind k ((blanks-tested n.before).shown n.blank) (past-stops n.behind n.past)
+pub a_naming_line_is_read : (i : ℕ) (l : List ℕ) → i < 22 → (n : Naming i l) → line_of l ≡ Entry i (number_behind n.behind)
+a_naming_line_is_read i l k n =
+    ap line_of n.line ∙ named_line i n.before n.behind k ((blanks_tested n.before).shown n.blank) (past-stops n.behind n.past)
 
-pub a-silent-line-is-read : (l : List ℕ) → Silent l → line_of l ≡ Nothing
+pub a_silent_line_is_read : (l : List ℕ) → Silent l → line_of l ≡ Nothing
 unfolding line_of
-a-silent-line-is-read l s =
-    let none = ap word s.line ∙ no_word s.before s.comment ((blanks-tested s.before).shown s.blank) (comments s.comment s.commented) in
+a_silent_line_is_read l s =
+    let none = ap word s.line ∙ no_word s.before s.comment ((blanks_tested s.before).shown s.blank) (comments s.comment s.commented) in
     rw none
 
 -- ---- a list is what leads in it and what is past that
@@ -95,9 +95,9 @@ stops-past : (c : Class) (l : List ℕ) → T (stops c (past c l))
 stops-past c [] = tt
 stops-past c (b ∷ bs) = case (holds c b) (λ e. rw e (stops-past c bs)) (λ e. rw e (subst (λ x. T (not x)) (sym e) tt))
 
-still-one-line : (c : Class) (l : List ℕ) → OneLine l → OneLine (past c l)
-still-one-line c [] h = tt
-still-one-line c (b ∷ bs) h = case (holds c b) (λ e. rw e (still-one-line c bs h.1)) (λ e. rw e h)
+still_one_line : (c : Class) (l : List ℕ) → OneLine l → OneLine (past c l)
+still_one_line c [] h = tt
+still_one_line c (b ∷ bs) h = case (holds c b) (λ e. rw e (still_one_line c bs h.1)) (λ e. rw e h)
 
 -- ---- the tests as words
 -- what has neither a blank nor a word at its beginning is a comment, or nothing
@@ -115,9 +115,9 @@ past_words (b ∷ bs) o s =
     (λ t. inl ((blank-tested b).read (passes (holds Blank b) t)))
     (λ t. inr (neither b t (not-true (holds Letter b) (passed (not (holds Letter b)) s)) o.0))
 
-comment-words : (x : List ℕ) → OneLine x → T (stops Blank x) → length (leading Letter x) ≡ 0 → Comment x
-comment-words [] o s e = tt
-comment-words (b ∷ bs) o s e =
+comment_words : (x : List ℕ) → OneLine x → T (stops Blank x) → length (leading Letter x) ≡ 0 → Comment x
+comment_words [] o s e = tt
+comment_words (b ∷ bs) o s e =
     case (holds Letter b)
     (λ t. absurd (there (rw t at e)))
     (λ t. neither b (not-true (holds Blank b) (passed (not (holds Blank b)) s)) t o.0)
@@ -132,27 +132,27 @@ kind Nothing = 0
 kind Unnamed = 1
 kind (Entry i v) = 2
 
-abbrev pub its-value : Said → ℕ
-its-value Nothing = 0
-its-value Unnamed = 0
-its-value (Entry i v) = v
+abbrev pub its_value : Said → ℕ
+its_value Nothing = 0
+its_value Unnamed = 0
+its_value (Entry i v) = v
 
-no-entry : (i v : ℕ) → named i v ≡ Nothing → ⊥
-no-entry i v e =
+no_entry : (i v : ℕ) → named i v ≡ Nothing → ⊥
+no_entry i v e =
     case (eqb i 22)
     (λ t. neqb→ne 1 0 tt (ap kind (rw t at e)))
     (λ t. neqb→ne 2 0 tt (ap kind (rw t at e)))
 
-of-an-entry : (i v j w : ℕ) → named i v ≡ Entry j w → (i ≡ j) × ((v ≡ w) × ¬ (i ≡ 22))
-of-an-entry i v j w e =
+of_an_entry : (i v j w : ℕ) → named i v ≡ Entry j w → (i ≡ j) × ((v ≡ w) × ¬ (i ≡ 22))
+of_an_entry i v j w e =
     case (eqb i 22)
     (λ t. absurd (neqb→ne 1 2 tt (ap kind (rw t at e))))
-    (λ t. let f = rw t at e in (ap entry_in f, (ap its-value f, eqb-false i 22 t)))
+    (λ t. let f = rw t at e in (ap entry_in f, (ap its_value f, eqb-false i 22 t)))
 
-told-nothing : (l : List ℕ) → line_of l ≡ Nothing → length (word l) ≡ 0
+told_nothing : (l : List ℕ) → line_of l ≡ Nothing → length (word l) ≡ 0
 unfolding line_of
-told-nothing l e =
-    case (eqb (length (word l)) 0) (eqb-true (length (word l)) 0) (λ t. absurd (no-entry (entry_named (word l)) (number_behind (behind l)) (rw t at e)))
+told_nothing l e =
+    case (eqb (length (word l)) 0) (eqb-true (length (word l)) 0) (λ t. absurd (no_entry (entry_named (word l)) (number_behind (behind l)) (rw t at e)))
 
 record Told (i v : ℕ) (l : List ℕ) : Type 0 where
   pub some : ¬ (length (word l) ≡ 0)
@@ -160,28 +160,28 @@ record Told (i v : ℕ) (l : List ℕ) : Type 0 where
   pub named : ¬ (i ≡ 22)
   pub number : number_behind (behind l) ≡ v
 
-told-an-entry : (l : List ℕ) (i v : ℕ) → line_of l ≡ Entry i v → Told i v l
+told_an_entry : (l : List ℕ) (i v : ℕ) → line_of l ≡ Entry i v → Told i v l
 unfolding line_of
-told-an-entry l i v e =
+told_an_entry l i v e =
     case (eqb (length (word l)) 0)
     (λ t. absurd (neqb→ne 0 2 tt (ap kind (rw t at e))))
     (λ t.
-    let f = of-an-entry (entry_named (word l)) (number_behind (behind l)) i v (rw t at e) in
+    let f = of_an_entry (entry_named (word l)) (number_behind (behind l)) i v (rw t at e) in
     record { some = eqb-false (length (word l)) 0 t; entry = f.0; named = λ z. f.1.1 (f.0 ∙ z); number = f.1.0 })
 
-pub a-line-that-is-read-as-silent : (l : List ℕ) → OneLine l → line_of l ≡ Nothing → Silent l
-a-line-that-is-read-as-silent l o e =
+pub a_line_that_is_read_as_silent : (l : List ℕ) → OneLine l → line_of l ≡ Nothing → Silent l
+a_line_that_is_read_as_silent l o e =
     record {
       before = leading Blank l;
       comment = past Blank l;
       line = in_two Blank l;
-      blank = (blanks-tested (leading Blank l)).read (all-leading Blank l);
-      commented = comment-words (past Blank l) (still-one-line Blank l o) (stops-past Blank l) (told-nothing l e);
+      blank = (blanks_tested (leading Blank l)).read (all-leading Blank l);
+      commented = comment_words (past Blank l) (still_one_line Blank l o) (stops-past Blank l) (told_nothing l e);
     }
 
 -- ---- a number that is one, or above 65,535
-of-a-number : (r : List ℕ) (v : ℕ) → v ≤ 65536 → number_behind r ≡ v → (length (word (behind r)) ≡ 0) × (number_of (word r) ≡ v)
-of-a-number r v h e =
+of_a_number : (r : List ℕ) (v : ℕ) → v ≤ 65536 → number_behind r ≡ v → (length (word (behind r)) ≡ 0) × (number_of (word r) ≡ v)
+of_a_number r v h e =
     case (eqb (length (word (behind r))) 0)
     (λ t. (eqb-true (length (word (behind r))) 0 t, rw t at e))
     (λ t. let f : none ≡ v = rw t at e in absurd (omega arith))
@@ -196,8 +196,8 @@ digits_of w v h e = case (eqb (length w) 0) (λ t. let f : none ≡ v = rw t at 
         (λ d. (omega (arith, l), (passes (all_digits w) d, rw (t, d) at e)))
         (λ d. let f : none ≡ v = rw (t, d) at e in absurd (omega arith))
 
-pub as-it-is : (v : ℕ) → v ≤ 65535 → capped v ≡ v
-as-it-is v h = rw (le-leb v 65535 h)
+pub as_it_is : (v : ℕ) → v ≤ 65535 → capped v ≡ v
+as_it_is v h = rw (le-leb v 65535 h)
 
 pub capped_fits : (v : ℕ) → capped v ≤ 65536
 capped_fits v = case (leb v 65535) (λ t. let l = leb-true v 65535 t in rw t (omega (arith, l))) (λ t. rw t (omega arith))
@@ -212,16 +212,16 @@ too_large w e =
     (λ t. leb-false w 65535 t)
 
 -- ---- a word that names an entry is its name
-same-is : (xs ys : List ℕ) → T (same xs ys) → xs ≡ ys
-same-is [] [] h = refl
-same-is [] (y ∷ ys) h = absurd h
-same-is (x ∷ xs) [] h = absurd h
-same-is (x ∷ xs) (y ∷ ys) h =
-    ap (λ b. b ∷ xs) (eqb→eq x y (left (eqb x y) (same xs ys) h)) ∙ ap (λ l. y ∷ l) (same-is xs ys (right (eqb x y) (same xs ys) h))
+same_is : (xs ys : List ℕ) → T (same xs ys) → xs ≡ ys
+same_is [] [] h = refl
+same_is [] (y ∷ ys) h = absurd h
+same_is (x ∷ xs) [] h = absurd h
+same_is (x ∷ xs) (y ∷ ys) h =
+    ap (λ b. b ∷ xs) (eqb→eq x y (left (eqb x y) (same xs ys) h)) ∙ ap (λ l. y ∷ l) (same_is xs ys (right (eqb x y) (same xs ys) h))
 
 placed : (w : List ℕ) (ns : List (List ℕ)) (i : ℕ) → place w ns ≡ i → i < length ns → w ≡ get_or ns i []
 placed w [] i e h = absurd (omega arith)
-placed w (n ∷ ns) zero e h = case (same w n) (λ t. same-is w n (passes (same w n) t)) (λ t. absurd (later (place w ns) (rw t at e)))
+placed w (n ∷ ns) zero e h = case (same w n) (λ t. same_is w n (passes (same w n) t)) (λ t. absurd (later (place w ns) (rw t at e)))
   where
     later : (k : ℕ) → suc k ≡ 0 → ⊥
     later k f = omega arith
@@ -262,29 +262,29 @@ apart r s h = case (eqb (length (leading Blank r)) 0) together (λ t. let l = eq
 split : (l : List ℕ) → l ≡ leading Blank l ++ (word l ++ behind l)
 split l = in_two Blank l ∙ ap (λ r. leading Blank l ++ r) (in_two Letter (past Blank l))
 
-names-it : (l : List ℕ) (i v : ℕ) → line_of l ≡ Entry i v → (i < 22) × (word l ≡ name i)
+names_it : (l : List ℕ) (i v : ℕ) → line_of l ≡ Entry i v → (i < 22) × (word l ≡ name i)
 unfolding entry_named
-names-it l i v e =
-    let t = told-an-entry l i v e in
+names_it l i v e =
+    let t = told_an_entry l i v e in
     let fits : place (word l) names ≤ 22 = place-fits (word l) names in
     let entry : place (word l) names ≡ i = t.entry in
     let other = t.named in
     let below : i < 22 = omega (arith, fits, entry, other) in
     (below, placed (word l) names i entry below)
 
-still-past : (l : List ℕ) → OneLine l → OneLine (behind l)
-still-past l o = still-one-line Letter (past Blank l) (still-one-line Blank l o)
+still_past : (l : List ℕ) → OneLine l → OneLine (behind l)
+still_past l o = still_one_line Letter (past Blank l) (still_one_line Blank l o)
 
-pub a-line-that-is-read-names-its-entry : (l : List ℕ) (i v : ℕ) → OneLine l → line_of l ≡ Entry i v → (i < 22) × Naming i l
-a-line-that-is-read-names-its-entry l i v o e =
-    let n = names-it l i v e in (
+pub a_line_that_is_read_names_its_entry : (l : List ℕ) (i v : ℕ) → OneLine l → line_of l ≡ Entry i v → (i < 22) × Naming i l
+a_line_that_is_read_names_its_entry l i v o e =
+    let n = names_it l i v e in (
       n.0,
       record {
         before = leading Blank l;
         behind = behind l;
         line = split l ∙ ap (λ w. leading Blank l ++ (w ++ behind l)) n.1;
-        blank = (blanks-tested (leading Blank l)).read (all-leading Blank l);
-        past = past_words (behind l) (still-past l o) (stops-past Letter (past Blank l));
+        blank = (blanks_tested (leading Blank l)).read (all-leading Blank l);
+        past = past_words (behind l) (still_past l o) (stops-past Letter (past Blank l));
       },
     )
 
@@ -296,10 +296,10 @@ record Numbered (i v : ℕ) (l : List ℕ) : Type 0 where
 
 numbered : (l : List ℕ) (i v : ℕ) → OneLine l → v ≤ 65536 → line_of l ≡ Entry i v → Numbered i v l
 numbered l i v o h e =
-    let t = told-an-entry l i v e in
+    let t = told_an_entry l i v e in
     let r = behind l in
     let q = behind r in
-    let n = of-a-number r v h t.number in
+    let n = of_a_number r v h t.number in
     let d = digits_of (word r) v h n.1 in
     record {
       value = value_from 0 (word r);
@@ -312,26 +312,26 @@ numbered l i v o h e =
         comment = past Blank q;
         line =
             split l
-            ∙ ap (λ w. leading Blank l ++ (w ++ r)) (names-it l i v e).1
+            ∙ ap (λ w. leading Blank l ++ (w ++ r)) (names_it l i v e).1
             ∙ ap (λ x. leading Blank l ++ (name i ++ x)) (split r ∙ ap (λ x. leading Blank r ++ (word r ++ x)) (in_two Blank q));
         blank = (
-          (blanks-tested (leading Blank l)).read (all-leading Blank l),
-          ((blanks-tested (leading Blank r)).read (all-leading Blank r), (blanks-tested (leading Blank q)).read (all-leading Blank q)),
+          (blanks_tested (leading Blank l)).read (all-leading Blank l),
+          ((blanks_tested (leading Blank r)).read (all-leading Blank r), (blanks_tested (leading Blank q)).read (all-leading Blank q)),
         );
         apart = apart r (stops-past Letter (past Blank l)) d.0;
-        number = (digits-tested (word r)).read d.1.0;
+        number = (digits_tested (word r)).read d.1.0;
         some = d.0;
-        value = sym (value-is (word r));
-        commented = comment-words (past Blank q) (still-one-line Blank q (still-past r (still-past l o))) (stops-past Blank q) n.0;
+        value = sym (value_is (word r));
+        commented = comment_words (past Blank q) (still_one_line Blank q (still_past r (still_past l o))) (stops-past Blank q) n.0;
       };
     }
 
-pub a-line-that-is-read-as-an-entry : (l : List ℕ) (i v : ℕ) → OneLine l → v ≤ 65535 → line_of l ≡ Entry i v → (i < 22) × Telling i v l
-a-line-that-is-read-as-an-entry l i v o h e =
+pub a_line_that_is_read_as_an_entry : (l : List ℕ) (i v : ℕ) → OneLine l → v ≤ 65535 → line_of l ≡ Entry i v → (i < 22) × Telling i v l
+a_line_that_is_read_as_an_entry l i v o h e =
     let r = numbered l i v o (omega arith) e in
-    ((names-it l i v e).0, subst (λ n. Telling i n l) (uncapped r.value v h r.is_read) r.tells)
+    ((names_it l i v e).0, subst (λ n. Telling i n l) (uncapped r.value v h r.is_read) r.tells)
 
-pub a-line-that-is-read-as-too-large : (l : List ℕ) (i : ℕ) → OneLine l → line_of l ≡ Entry i above → TooLarge i l
-a-line-that-is-read-as-too-large l i o e =
+pub a_line_that_is_read_as_too_large : (l : List ℕ) (i : ℕ) → OneLine l → line_of l ≡ Entry i above → TooLarge i l
+a_line_that_is_read_as_too_large l i o e =
     let r = numbered l i above o (omega arith) e in
     record { value = r.value; tells = r.tells; above = too_large r.value r.is_read }

@@ -21,15 +21,15 @@ use Rattle.tablewords.proofs.WordLaws.{take-leading, leading-fits}
 abbrev pub lines_at : ℕ → List ℕ → List (List ℕ)
 lines_at at text = cond (leb at (length text)) (lines (drop at text)) []
 
-first-line : (l : List ℕ) → lines l ≡ leading Inline l ∷ lines_at (suc (length (leading Inline l))) l
-first-line [] = refl
-first-line (b ∷ bs) =
+first_line : (l : List ℕ) → lines l ≡ leading Inline l ∷ lines_at (suc (length (leading Inline l))) l
+first_line [] = refl
+first_line (b ∷ bs) =
     case (eqb b line_feed)
     (λ e. rw (e, le-leb 1 (suc (length bs)) (omega arith)))
-    (λ e. rw (e, leb-suc-suc (suc (length (leading Inline bs))) (length bs)) (ap (onto b) (first-line bs)))
+    (λ e. rw (e, leb-suc-suc (suc (length (leading Inline bs))) (length bs)) (ap (onto b) (first_line bs)))
 
-further-on : (at n : ℕ) (text : List ℕ) → at ≤ length text → lines_at n (drop at text) ≡ lines_at (at + n) text
-further-on at n text h =
+further_on : (at n : ℕ) (text : List ℕ) → at ≤ length text → lines_at n (drop at text) ≡ lines_at (at + n) text
+further_on at n text h =
     let size = length-drop at text in
     case (leb (at + n) (length text))
     (λ e.
@@ -48,28 +48,28 @@ module _
     spans : size ≡ length (leading Inline (drop at text))
     spans = s ∙ ap (λ l. length (leading Inline l)) (part_to_end text at)
 
-    pub line-fits : at + size ≤ length text
-    line-fits = omega (arith, spans, length-drop at text, leading-fits Inline (drop at text))
+    pub line_fits : at + size ≤ length text
+    line_fits = omega (arith, spans, length-drop at text, leading-fits Inline (drop at text))
 
-    the-line : take (at + size - at) (drop at text) ≡ leading Inline (drop at text)
-    the-line = let one : at + size - at ≡ size = omega arith in rw (one, spans, take-leading Inline (drop at text))
+    the_line : take (at + size - at) (drop at text) ≡ leading Inline (drop at text)
+    the_line = let one : at + size - at ≡ size = omega arith in rw (one, spans, take-leading Inline (drop at text))
 
     next : lines_at at text ≡ leading Inline (drop at text) ∷ lines_at (at + size + 1) text
     next =
         let sum : at + suc size ≡ at + size + 1 = omega arith in
-        rw (le-leb at (length text) h, ← sum, ← further-on at (suc size) text h, spans) (first-line (drop at text))
+        rw (le-leb at (length text) h, ← sum, ← further_on at (suc size) text h, spans) (first_line (drop at text))
 
     -- what the line says, behind n lines that gave these entries
     module _ (n : ℕ) (given : List ℕ) (said : Said) (e : said ≡ line_of (take (at + size - at) (drop at text))) where
       is_said : line_of (leading Inline (drop at text)) ≡ said
-      is_said = sym (e ∙ ap line_of the-line)
+      is_said = sym (e ∙ ap line_of the_line)
 
-      pub wrong-line : ¬ (fault_of given said ≡ 0) → read_from n given (lines_at at text) ≡ wrong (fault_of given said) (suc n) (entry_in said)
-      wrong-line f = rw (next, is_said, ne_eqb (fault_of given said) 0 f)
+      pub wrong_line : ¬ (fault_of given said ≡ 0) → read_from n given (lines_at at text) ≡ wrong (fault_of given said) (suc n) (entry_in said)
+      wrong_line f = rw (next, is_said, ne_eqb (fault_of given said) 0 f)
 
-      pub good-line : fault_of given said ≡ 0
+      pub good_line : fault_of given said ≡ 0
           → read_from n given (lines_at at text) ≡ read_from (suc n) (with_line given said) (lines_at (at + size + 1) text)
-      good-line f = rw (next, is_said, eq-eqb (fault_of given said) 0 f)
+      good_line f = rw (next, is_said, eq-eqb (fault_of given said) 0 f)
 
 -- behind the last line
 pub no_line : (at : ℕ) (text : List ℕ) → length text < at → lines_at at text ≡ []

@@ -20,7 +20,7 @@ use Rattle.tabletext.specs.Texts.{onto, lines, line_of, not_given, entry_checks,
 use Rattle.tabletext.specs.Form.{OneLine, Telling, joined, OneLines, NotGiven, Gives, Giving, TooLarge, WrongEntry, WrongLine}
 use Rattle.tabletext.proofs.FormLaws.{all}
 use Rattle.tabletext.proofs.RoundTrip.{one_line, sound}
-use Rattle.tabletext.proofs.InWords.{kind, its-value, as-it-is, capped_fits, a-telling-line-is-read, a-naming-line-is-read, a-silent-line-is-read, a-line-that-is-read-as-silent, a-line-that-is-read-as-an-entry, a-line-that-is-read-names-its-entry, a-line-that-is-read-as-too-large}
+use Rattle.tabletext.proofs.InWords.{kind, its_value, as_it_is, capped_fits, a_telling_line_is_read, a_naming_line_is_read, a_silent_line_is_read, a_line_that_is_read_as_silent, a_line_that_is_read_as_an_entry, a_line_that_is_read_names_its_entry, a_line_that_is_read_as_too_large}
 
 -- ---- the lines of lines that are joined
 inline : (l : List ℕ) → OneLine l → T (all Inline l)
@@ -80,18 +80,18 @@ telling n given l ls i v e g h = rw (e, g, sound v h)
 
 gives_as : (l given : List ℕ) (further : List ℕ → Type 0) (g : Gives l given further) → line_of l ≡ Entry g.entry g.value
 gives_as l given further g =
-    a-telling-line-is-read g.entry g.value l g.an-entry g.tells ∙ ap (Entry g.entry) (as-it-is g.value g.fits)
+    a_telling_line_is_read g.entry g.value l g.an_entry g.tells ∙ ap (Entry g.entry) (as_it_is g.value g.fits)
 
-pub read-giving : (n : ℕ) (ls : List (List ℕ)) (given after : List ℕ) → Giving ls given after → read_from n given ls ≡ ended (n + length ls) after
-read-giving n [] given after e = let still : n + 0 ≡ n = omega arith in rw (still, e)
-read-giving n (l ∷ ls) given after h =
+pub read_giving : (n : ℕ) (ls : List (List ℕ)) (given after : List ℕ) → Giving ls given after → read_from n given ls ≡ ended (n + length ls) after
+read_giving n [] given after e = let still : n + 0 ≡ n = omega arith in rw (still, e)
+read_giving n (l ∷ ls) given after h =
     let count : n + suc (length ls) ≡ suc n + length ls = omega arith in
     rw count
     (⊎_elim
-    (λ s. silent n given l ls (a-silent-line-is-read l s.0) ∙ read-giving (suc n) ls given after s.1)
+    (λ s. silent n given l ls (a_silent_line_is_read l s.0) ∙ read_giving (suc n) ls given after s.1)
     (λ g.
     telling n given l ls g.entry g.value (gives_as l given (λ x. Giving ls x after) g) g.new g.fits
-    ∙ read-giving (suc n) ls (set given g.entry g.value) after g.rest)
+    ∙ read_giving (suc n) ls (set given g.entry g.value) after g.rest)
     h)
 
 -- ---- what is wrong with a line that names an entry
@@ -104,7 +104,7 @@ wrong-entry l given i v o s w =
   where
     no_number : 65536 < v → (n : ℕ) → i < 22 → ¬ Telling i n l
     no_number h n k q =
-        let e : v ≡ capped n = ap its-value (sym s ∙ a-telling-line-is-read i n l k q) in
+        let e : v ≡ capped n = ap its_value (sym s ∙ a_telling_line_is_read i n l k q) in
         omega (arith, e, capped_fits n)
 
     by_value : eqb (get_or given i 0) not_given ≡ true → NotGiven given i
@@ -119,8 +119,8 @@ wrong-entry l given i v o s w =
         let low = leb-true v above b in
         let high = leb-false v 65535 c in
         let is : v ≡ above = omega (arith, low, high) in
-        inr (rw (a, b, c), (new, a-line-that-is-read-as-too-large l i o (s ∙ ap (Entry i) is)))))
-        (λ b. inl (rw (a, b), (new, λ n. no_number (leb-false v above b) n (a-line-that-is-read-names-its-entry l i v o s).0)))
+        inr (rw (a, b, c), (new, a_line_that_is_read_as_too_large l i o (s ∙ ap (Entry i) is)))))
+        (λ b. inl (rw (a, b), (new, λ n. no_number (leb-false v above b) n (a_line_that_is_read_names_its_entry l i v o s).0)))
 
 -- ---- how far lines give entries, behind n lines that gave these: up to the first that is wrong, or to their end
 pub record Strays (n : ℕ) (ls : List (List ℕ)) (given : List ℕ) : Type 0 where
@@ -132,7 +132,7 @@ pub record Strays (n : ℕ) (ls : List (List ℕ)) (given : List ℕ) : Type 0 w
   pub giving : Giving before given after
   pub fault : ℕ
   pub place : ℕ
-  pub wrong-so : WrongLine line after fault place
+  pub wrong_so : WrongLine line after fault place
   pub told : read_from n given ls ≡ wrong fault (n + (length before + 1)) place
 
 pub record Ends (ls : List (List ℕ)) (given : List ℕ) : Type 0 where
@@ -159,7 +159,7 @@ walked n (l ∷ ls) given o = by_said (λ g. walked (suc n) ls g o.1) (line_of l
           giving = leads s.before s.after s.giving;
           fault = s.fault;
           place = s.place;
-          wrong-so = s.wrong-so;
+          wrong_so = s.wrong_so;
           told = e ∙ s.told ∙ ap (λ k. wrong s.fault k s.place) count;
         }))
         (λ w. inr (record { after = w.after; giving = leads ls w.after w.giving }))
@@ -177,21 +177,21 @@ walked n (l ∷ ls) given o = by_said (λ g. walked (suc n) ls g o.1) (line_of l
           giving = refl;
           fault = fault;
           place = place;
-          wrong-so = h;
+          wrong_so = h;
           told = e ∙ ap (λ k. wrong fault k place) count;
         }
 
     by_said : ((g : List ℕ) → Strays (suc n) ls g ⊎ Ends ls g) → (x : Said) → line_of l ≡ x → Strays n (l ∷ ls) given ⊎ Ends (l ∷ ls) given
     by_said further Nothing s =
-        on given (λ ms after h. inl (a-line-that-is-read-as-silent l o.0 s, h)) (silent n given l ls s) (further given)
+        on given (λ ms after h. inl (a_line_that_is_read_as_silent l o.0 s, h)) (silent n given l ls s) (further given)
     by_said further Unnamed s =
         inl
         (here 1 0
         (inl (
           refl,
           (
-            λ q. neqb→ne 1 0 tt (ap kind (sym s ∙ a-silent-line-is-read l q)),
-            λ j k q. neqb→ne 1 2 tt (ap kind (sym s ∙ a-naming-line-is-read j l k q)),
+            λ q. neqb→ne 1 0 tt (ap kind (sym s ∙ a_silent_line_is_read l q)),
+            λ j k q. neqb→ne 1 2 tt (ap kind (sym s ∙ a_naming_line_is_read j l k q)),
           ),
         ))
         (rw s))
@@ -202,11 +202,11 @@ walked n (l ∷ ls) given o = by_said (λ g. walked (suc n) ls g o.1) (line_of l
         let h = (first→holds 0 checks tt (eqb-true (first checks) 0 c)).0 in
         let new = eqb→eq (get_or given i 0) not_given h.0 in
         let fits = leb→le v 65535 h.1.1.0 in
-        let tells = a-line-that-is-read-as-an-entry l i v o.0 fits s in
+        let tells = a_line_that_is_read_as_an_entry l i v o.0 fits s in
         on (set given i v)
-        (λ ms after r. inr (record { entry = i; value = v; an-entry = tells.0; fits = fits; tells = tells.1; new = new; rest = r }))
+        (λ ms after r. inr (record { entry = i; value = v; an_entry = tells.0; fits = fits; tells = tells.1; new = new; rest = r }))
         (telling n given l ls i v s new fits)
         (further (set given i v)))
         (λ c.
-        let names = a-line-that-is-read-names-its-entry l i v o.0 s in
+        let names = a_line_that_is_read_names_its_entry l i v o.0 s in
         inl (here (first checks) i (inr (names.0, (names.1, wrong-entry l given i v o.0 s (eqb-false (first checks) 0 c)))) (rw (s, c))))

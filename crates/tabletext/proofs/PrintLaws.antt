@@ -23,8 +23,8 @@ module _ (vs whole front : List ℕ) (i : ℕ) (h : front ++ lines_from i (drop 
   one_line front' v k e f =
       rw (f, e, add-one i) (append_assoc front (entry_line i (get_or vs i 0)) (lines_from (suc i) (drop (suc i) vs)) ∙ rw (drop-cons vs i 0 k) at h)
 
-  pub no-more-lines : i ≡ length vs → front ≡ whole
-  no-more-lines e = sym (append-nil front) ∙ rw (e, drop-length vs) at h
+  pub no_more_lines : i ≡ length vs → front ≡ whole
+  no_more_lines e = sym (append-nil front) ∙ rw (e, drop-length vs) at h
 
 -- ---- what is answered of a text that was laid counts bytes of the buffer
 pub counted : (text out : List ℕ) (r : Laid) (left : List ℕ) → (r ≡ laid text out) × (left ≡ after text out)

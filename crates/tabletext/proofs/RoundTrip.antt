@@ -26,12 +26,12 @@ use Rattle.tabletext.specs.declared.Text.TheVariants.{Says}
 use Rattle.tablewords.specs.Words.{line_feed, holds, digit, all_digits, value_from, capped}
 use Rattle.tablewords.specs.Names.{name}
 use Rattle.tabletext.specs.Texts.{onto, lines, line_of, not_given, nothing_given, entry_checks, absent_from, undelayed, wanted, missing, or_zero, ended, read_from, read_of}
-use Rattle.stepfile.proofs.EntryLaws.{delays, in-eighteen, in-twenty-two, same-table}
+use Rattle.stepfile.proofs.EntryLaws.{delays, in_eighteen, in_twenty_two, same-table}
 use Rattle.tabletext.specs.Printed.{value_part, entry_line, lines_from, text_of}
-use Rattle.tabletext.proofs.lay.lay.Reads as lay-reads
-use Rattle.tabletext.proofs.read.Reads as read-reads
-use Rattle.tabletext.proofs.FormLaws.{all, line-says}
-use Rattle.tabletext.proofs.DigitLaws.{are-digits, at_least_one, value-is}
+use Rattle.tabletext.proofs.lay.lay.Reads as lay_reads
+use Rattle.tabletext.proofs.read.Reads as read_reads
+use Rattle.tabletext.proofs.FormLaws.{all, line_says}
+use Rattle.tabletext.proofs.DigitLaws.{are_digits, at_least_one, value_is}
 
 -- ---- a line that ends, and the lines behind it
 pub one_line : (l rest : List ℕ) → T (all Inline l) → lines (l ++ (line_feed ∷ rest)) ≡ l ∷ lines rest
@@ -41,42 +41,42 @@ one_line (b ∷ bs) rest h =
     rw no (ap (onto b) (one_line bs rest (right (holds Inline b) (all Inline bs) h)))
 
 -- ---- a printed line says its entry
-printed-by : (i : ℕ) (ds : List ℕ) → i < 22 → T (all_digits ds) → 1 ≤ length ds → line_of (name i ++ (32 ∷ ds)) ≡ Entry i (capped (value_from 0 ds))
-printed-by i [] k h l = absurd (omega arith)
-printed-by i (d ∷ ds) k h l =
-    subst (λ e. line_of (name i ++ (32 ∷ e)) ≡ Entry i (capped (value_from 0 (d ∷ ds)))) (append-nil (d ∷ ds)) (line-says [] [] [] [] 32 d ds i tt tt h tt tt k)
+printed_by : (i : ℕ) (ds : List ℕ) → i < 22 → T (all_digits ds) → 1 ≤ length ds → line_of (name i ++ (32 ∷ ds)) ≡ Entry i (capped (value_from 0 ds))
+printed_by i [] k h l = absurd (omega arith)
+printed_by i (d ∷ ds) k h l =
+    subst (λ e. line_of (name i ++ (32 ∷ e)) ≡ Entry i (capped (value_from 0 (d ∷ ds)))) (append-nil (d ∷ ds)) (line_says [] [] [] [] 32 d ds i tt tt h tt tt k)
 
-printed-line : (i v : ℕ) → i < 22 → v ≤ 65535 → line_of (name i ++ field v) ≡ Entry i v
-printed-line i v k h = printed-by i (decimal_of v) k (are-digits v) (at_least_one v) ∙ rw (value-is v, le-leb v 65535 h)
+printed_line : (i v : ℕ) → i < 22 → v ≤ 65535 → line_of (name i ++ field v) ≡ Entry i v
+printed_line i v k h = printed_by i (decimal_of v) k (are_digits v) (at_least_one v) ∙ rw (value_is v, le-leb v 65535 h)
 
 -- ---- it has no line feed
-digit-inline : (b : ℕ) → T (digit b) → T (holds Inline b)
-digit-inline b h = let low = leb→le 48 b (left (leb 48 b) (leb b 57) h) in rw (ne_eqb b 10 (λ e. absurd (omega arith))) tt
+digit_inline : (b : ℕ) → T (digit b) → T (holds Inline b)
+digit_inline b h = let low = leb→le 48 b (left (leb 48 b) (leb b 57) h) in rw (ne_eqb b 10 (λ e. absurd (omega arith))) tt
 
-digits-inline : (ds : List ℕ) → T (all_digits ds) → T (all Inline ds)
-digits-inline [] h = tt
-digits-inline (d ∷ ds) h =
-    both (holds Inline d) (all Inline ds) (digit-inline d (left (digit d) (all_digits ds) h)) (digits-inline ds (right (digit d) (all_digits ds) h))
+digits_inline : (ds : List ℕ) → T (all_digits ds) → T (all Inline ds)
+digits_inline [] h = tt
+digits_inline (d ∷ ds) h =
+    both (holds Inline d) (all Inline ds) (digit_inline d (left (digit d) (all_digits ds) h)) (digits_inline ds (right (digit d) (all_digits ds) h))
 
-two-inline : (xs ys : List ℕ) → T (all Inline xs) → T (all Inline ys) → T (all Inline (xs ++ ys))
-two-inline [] ys h k = k
-two-inline (x ∷ xs) ys h k =
-    both (holds Inline x) (all Inline (xs ++ ys)) (left (holds Inline x) (all Inline xs) h) (two-inline xs ys (right (holds Inline x) (all Inline xs) h) k)
+two_inline : (xs ys : List ℕ) → T (all Inline xs) → T (all Inline ys) → T (all Inline (xs ++ ys))
+two_inline [] ys h k = k
+two_inline (x ∷ xs) ys h k =
+    both (holds Inline x) (all Inline (xs ++ ys)) (left (holds Inline x) (all Inline xs) h) (two_inline xs ys (right (holds Inline x) (all Inline xs) h) k)
 
-name-inline : (i : ℕ) → i < 22 → T (all Inline (name i))
-name-inline = below (λ i. T (all Inline (name i))) 22 (omega arith)
+name_inline : (i : ℕ) → i < 22 → T (all Inline (name i))
+name_inline = below (λ i. T (all Inline (name i))) 22 (omega arith)
 
-line-inline : (i v : ℕ) → i < 22 → T (all Inline (name i ++ field v))
-line-inline i v k = two-inline (name i) (field v) (name-inline i k) (digits-inline (decimal_of v) (are-digits v))
+line_inline : (i v : ℕ) → i < 22 → T (all Inline (name i ++ field v))
+line_inline i v k = two_inline (name i) (field v) (name_inline i k) (digits_inline (decimal_of v) (are_digits v))
 
-printed-first : (i v : ℕ) (vs : List ℕ) → i < 22 → lines (lines_from i (v ∷ vs)) ≡ (name i ++ field v) ∷ lines (lines_from (suc i) vs)
-printed-first i v vs k =
+printed_first : (i v : ℕ) (vs : List ℕ) → i < 22 → lines (lines_from i (v ∷ vs)) ≡ (name i ++ field v) ∷ lines (lines_from (suc i) vs)
+printed_first i v vs k =
     let rest = lines_from (suc i) vs in
     let one : entry_line i v ++ rest ≡ (name i ++ field v) ++ (line_feed ∷ rest) =
     append_assoc (name i) (value_part v) rest
     ∙ ap (name i ++◌) (append_assoc (field v) (line_feed ∷ []) rest)
     ∙ sym (append_assoc (name i) (field v) (line_feed ∷ rest)) in
-    ap lines one ∙ one_line (name i ++ field v) rest (line-inline i v k)
+    ap lines one ∙ one_line (name i ++ field v) rest (line_inline i v k)
 
 -- ---- each of these entries has 16 bits
 abbrev pub Within16 : List ℕ → Type 0
@@ -87,16 +87,16 @@ Within16 (v ∷ vs) = (v ≤ 65535) × Within16 vs
 pub sound : (v : ℕ) → v ≤ 65535 → first (entry_checks not_given v) ≡ 0
 sound v h = holds→first (entry_checks not_given v) (omega (arith, tests))
 
-read-on : (n i k : ℕ) (front vs : List ℕ) → length front ≡ i → i + length vs ≤ 22 → Within16 vs
+read_on : (n i k : ℕ) (front vs : List ℕ) → length front ≡ i → i + length vs ≤ 22 → Within16 vs
     → read_from n (front ++ replicate (length vs + k) not_given) (lines (lines_from i vs))
     ≡ read_from (n + length vs) ((front ++ vs) ++ replicate k not_given) ([] ∷ [])
-read-on n i k front [] e f w =
+read_on n i k front [] e f w =
     let none : 0 + k ≡ k = omega arith in
     let still : n + 0 ≡ n = omega arith in
     rw (none, still, append-nil front)
-read-on n i k front (v ∷ vs) e f w =
+read_on n i k front (v ∷ vs) e f w =
     let given = front ++ (not_given ∷ replicate (length vs + k) not_given) in
-    let line = printed-line i v (omega (arith, f)) w.0 in
+    let line = printed_line i v (omega (arith, f)) w.0 in
     let before : get_or given i 0 ≡ not_given = get_or_at front not_given (replicate (length vs + k) not_given) 0 i e in
     let put : set given i v ≡ (front ++ (v ∷ [])) ++ replicate (length vs + k) not_given =
     set_at front not_given (replicate (length vs + k) not_given) v i e ∙ sym (append_snoc front v (replicate (length vs + k) not_given)) in
@@ -104,8 +104,8 @@ read-on n i k front (v ∷ vs) e f w =
     let size : length (front ++ (v ∷ [])) ≡ suc i = omega (arith, e, length-append front (v ∷ [])) in
     let more : suc (length vs) + k ≡ suc (length vs + k) = omega arith in
     let count : n + suc (length vs) ≡ suc n + length vs = omega arith in
-    rw (more, printed-first i v vs (omega (arith, f)), line, before, good, put, count, ← append_snoc front v vs)
-    (read-on (suc n) (suc i) k (front ++ (v ∷ [])) vs size (omega (arith, f)) w.1)
+    rw (more, printed_first i v vs (omega (arith, f)), line, before, good, put, count, ← append_snoc front v vs)
+    (read_on (suc n) (suc i) k (front ++ (v ∷ [])) vs size (omega (arith, f)) w.1)
 
 -- ---- at the end nothing is missing, and the table is the one that was printed
 absent-past : (i : ℕ) (vs rest : List ℕ) → Within16 vs → absent_from i (vs ++ rest) ≡ absent_from (i + length vs) rest
@@ -115,9 +115,9 @@ absent-past i (v ∷ vs) rest w =
     let count : i + suc (length vs) ≡ suc i + length vs = omega arith in
     rw (ne_eqb v not_given (λ e. absurd (omega arith)), count) (absent-past (suc i) vs rest w.1)
 
-as-given : (vs rest : List ℕ) → Within16 vs → map or_zero (vs ++ rest) ≡ vs ++ map or_zero rest
-as-given [] rest w = refl
-as-given (v ∷ vs) rest w = rw (le-leb v 65535 w.0) (ap (v ∷◌) (as-given vs rest w.1))
+as_given : (vs rest : List ℕ) → Within16 vs → map or_zero (vs ++ rest) ≡ vs ++ map or_zero rest
+as_given [] rest w = refl
+as_given (v ∷ vs) rest w = rw (le-leb v 65535 w.0) (ap (v ∷◌) (as_given vs rest w.1))
 
 pub none-missing : (given : List ℕ) → wanted given ≤ absent_from 0 given → missing given ≡ 22
 none-missing given h = rw (le-ltb (absent_from 0 given) (wanted given) h)
@@ -139,7 +139,7 @@ module _ (vs : List ℕ) (k : ℕ) (size : length vs + k ≡ 22) (w : Within16 v
   all_read =
       let start : nothing_given ≡ replicate (length vs + k) not_given = ap (λ n. replicate n not_given) (sym size) in
       ap (λ g. read_from 0 g (lines (lines_from 0 vs))) start
-      ∙ read-on 0 0 k [] vs refl (omega (arith, size)) w
+      ∙ read_on 0 0 k [] vs refl (omega (arith, size)) w
       ∙ last_line (0 + length vs) given
 
   reads_as : wanted given ≤ absent_from (0 + length vs) (replicate k not_given)
@@ -147,18 +147,18 @@ module _ (vs : List ℕ) (k : ℕ) (size : length vs + k ≡ 22) (w : Within16 v
   reads_as h =
       all_read
       ∙ says (suc (0 + length vs)) given (none-missing given (rw (absent-past 0 vs (replicate k not_given) w) h))
-      ∙ ap (λ l. Says (table_of l)) (as-given vs (replicate k not_given) w)
+      ∙ ap (λ l. Says (table_of l)) (as_given vs (replicate k not_given) w)
 
-pub printed-reads-back : (t : Table) → Within16 (entries t) → read_of (text_of t) ≡ Says t
+pub printed_reads_back : (t : Table) → Within16 (entries t) → read_of (text_of t) ≡ Says t
 unfolding text_of
-printed-reads-back t w =
+printed_reads_back t w =
     ⊎_elim
     (λ n.
-    ap (λ l. read_of (lines_from 0 l)) (in-eighteen t n)
+    ap (λ l. read_of (lines_from 0 l)) (in_eighteen t n)
     ∙ reads_as (limits t) 4 refl (before (limits t) (table.delays t) w) (lit≤ tt)
-    ∙ ap Says (ap table_of (sym (in-eighteen t n)) ∙ same-table t))
+    ∙ ap Says (ap table_of (sym (in_eighteen t n)) ∙ same-table t))
     (λ n.
-    ap (λ l. read_of (lines_from 0 l)) (in-twenty-two t n)
+    ap (λ l. read_of (lines_from 0 l)) (in_twenty_two t n)
     ∙ reads_as (entries t) 0 refl w (fits t)
     ∙ ap Says (ap table_of (append-nil (entries t))))
     (delays t)
@@ -173,8 +173,8 @@ printed-reads-back t w =
         case (undelayed (get_or g 18 0) (get_or g 19 0) (get_or g 20 0) (get_or g 21 0)) (λ e. rw e (omega arith)) (λ e. rw e (omega arith))
 
 -- ---- a text that was laid stands at the buffer's start
-laid-there : (text out : List ℕ) → (laid text out).number ≡ 0 → take (laid text out).length (after text out) ≡ text
-laid-there text out z =
+laid_there : (text out : List ℕ) → (laid text out).number ≡ 0 → take (laid text out).length (after text out) ≡ text
+laid_there text out z =
     case (leb (length text) (length out))
     (λ e. rw e (take-append_seam text (drop (length text) out)))
     (λ e. absurd (fifteen (rw e at z)))
@@ -183,12 +183,12 @@ laid-there text out z =
     fifteen e = omega arith
 
 -- ---- the same of the calls: what `lay` leaves in a buffer with room for it, `read` reads back
-module _ (κs : _) (a : _) (r : _) (left : _) (call : lay-reads.Post κs a r left) where
-  pub lay-reads-back :
-      r.number ≡ 0 → Within16 (entries a.0) → (λs : _) (b : _) (x : _) (at : _) → read-reads.Post λs b x at
+module _ (κs : _) (a : _) (r : _) (left : _) (call : lay_reads.Post κs a r left) where
+  pub lay_reads_back :
+      r.number ≡ 0 → Within16 (entries a.0) → (λs : _) (b : _) (x : _) (at : _) → read_reads.Post λs b x at
       → b.0.now ≡ take r.length left.1.0.now → x ≡ Says a.0
-  lay-reads-back z w λs b x at p e =
+  lay_reads_back z w λs b x at p e =
       let text = text_of a.0 in
       let out = a.1.0.now in
-      let there : take r.length left.1.0.now ≡ text = rw (call.1.0, call.1.1) (laid-there text out (rw call.1.0 at z)) in
-      p ∙ ap read_of (e ∙ there) ∙ printed-reads-back a.0 w
+      let there : take r.length left.1.0.now ≡ text = rw (call.1.0, call.1.1) (laid_there text out (rw call.1.0 at z)) in
+      p ∙ ap read_of (e ∙ there) ∙ printed_reads_back a.0 w

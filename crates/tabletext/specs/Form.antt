@@ -75,7 +75,7 @@ NotGiven given i = get_or given i 0 ≡ 65536
 pub record Gives (l given : List ℕ) (further : List ℕ → Type 0) : Type 0 where
   pub entry : ℕ
   pub value : ℕ
-  pub an-entry : entry < 22
+  pub an_entry : entry < 22
   pub fits : value ≤ 65535
   pub tells : Telling entry value l
   pub new : NotGiven given entry

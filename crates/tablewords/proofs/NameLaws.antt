@@ -14,23 +14,23 @@ use Rattle.io.specs.Counts.{IsPrefixLen}
 use Rattle.tablewords.specs.Names.{names, name, same, place}
 
 -- ---- two words
-pub unequal-lengths : (xs ys : List ℕ) → ¬ (length xs ≡ length ys) → same xs ys ≡ false
-unequal-lengths [] [] h = absurd (h refl)
-unequal-lengths [] (y ∷ ys) h = refl
-unequal-lengths (x ∷ xs) [] h = refl
-unequal-lengths (x ∷ xs) (y ∷ ys) h =
-    case (eqb x y) (λ e. rw (e, unequal-lengths xs ys (λ l. h (ap suc l)))) (λ e. rw e)
+pub unequal_lengths : (xs ys : List ℕ) → ¬ (length xs ≡ length ys) → same xs ys ≡ false
+unequal_lengths [] [] h = absurd (h refl)
+unequal_lengths [] (y ∷ ys) h = refl
+unequal_lengths (x ∷ xs) [] h = refl
+unequal_lengths (x ∷ xs) (y ∷ ys) h =
+    case (eqb x y) (λ e. rw (e, unequal_lengths xs ys (λ l. h (ap suc l)))) (λ e. rw e)
 
 module _ (xs ys : List ℕ) (i : ℕ) where
-  pub equal-bytes : i < length xs → i < length ys → get_or xs i 0 ≡ get_or ys i 0
+  pub equal_bytes : i < length xs → i < length ys → get_or xs i 0 ≡ get_or ys i 0
       → same (drop i xs) (drop i ys) ≡ same (drop (suc i) xs) (drop (suc i) ys)
-  equal-bytes h k e = rw (drop-cons xs i 0 h, drop-cons ys i 0 k, eq-eqb (get_or xs i 0) (get_or ys i 0) e)
+  equal_bytes h k e = rw (drop-cons xs i 0 h, drop-cons ys i 0 k, eq-eqb (get_or xs i 0) (get_or ys i 0) e)
 
-  pub unequal-bytes : i < length xs → i < length ys → ¬ (get_or xs i 0 ≡ get_or ys i 0) → same (drop i xs) (drop i ys) ≡ false
-  unequal-bytes h k e = rw (drop-cons xs i 0 h, drop-cons ys i 0 k, ne_eqb (get_or xs i 0) (get_or ys i 0) e)
+  pub unequal_bytes : i < length xs → i < length ys → ¬ (get_or xs i 0 ≡ get_or ys i 0) → same (drop i xs) (drop i ys) ≡ false
+  unequal_bytes h k e = rw (drop-cons xs i 0 h, drop-cons ys i 0 k, ne_eqb (get_or xs i 0) (get_or ys i 0) e)
 
-  pub both-ended : i ≡ length xs → i ≡ length ys → same (drop i xs) (drop i ys) ≡ true
-  both-ended e f = rw (rest xs e, rest ys f)
+  pub both_ended : i ≡ length xs → i ≡ length ys → same (drop i xs) (drop i ys) ≡ true
+  both_ended e f = rw (rest xs e, rest ys f)
     where
       rest : (l : List ℕ) → i ≡ length l → drop i l ≡ []
       rest l e = rw (e, drop-length l)
@@ -63,10 +63,10 @@ name-fits = all_short names tt
 abbrev pub Laid : ℕ → ℕ → List ℕ → List ℕ → Type 0
 Laid i n space after = (n ≡ length (name i)) × (after ≡ name i ++ drop (length (name i)) space)
 
-pub laid-part : (i n : ℕ) (space after : List ℕ) → Laid i n space after → take n after ≡ name i
-laid-part i n space after h = rw (h.0, h.1) (take-append_seam (name i) (drop (length (name i)) space))
+pub laid_part : (i n : ℕ) (space after : List ℕ) → Laid i n space after → take n after ≡ name i
+laid_part i n space after h = rw (h.0, h.1) (take-append_seam (name i) (drop (length (name i)) space))
 
 pub counted : (i n : ℕ) (space after : List ℕ) → Laid i n space after → IsPrefixLen n after × Laid i n space after
 counted i n space after h =
     let fits : n ≤ length after = rw h.1 (omega (arith, h.0, length-append (name i) (drop (length (name i)) space))) in
-    ((fits, rw (laid-part i n space after h) h.0), h)
+    ((fits, rw (laid_part i n space after h) h.0), h)

@@ -20,8 +20,8 @@ grows v (b ∷ bs) = omega (arith, grows (v * 10 + (b - 48)) bs)
 over : (v : ℕ) → 65535 < v → capped v ≡ above
 over v h = rw (lt-leb v 65535 h)
 
-capped-once : (v : ℕ) (bs : List ℕ) → capped (value_from (capped v) bs) ≡ capped (value_from v bs)
-capped-once v bs =
+capped_once : (v : ℕ) (bs : List ℕ) → capped (value_from (capped v) bs) ≡ capped (value_from v bs)
+capped_once v bs =
     case (leb v 65535)
     (λ e. rw e)
     (λ e.
@@ -31,8 +31,8 @@ capped-once v bs =
 pub capped_fits : (v : ℕ) → capped v ≤ 65536
 capped_fits v = case (leb v 65535) (λ e. rw e (omega (arith, leb-true v 65535 e))) (λ e. rw e (omega arith))
 
-pub capped-already : (v : ℕ) → v ≤ 65536 → v ≡ capped v
-capped-already v h = case (leb v 65535) (λ e. rw e) (λ e. rw e (omega (arith, leb-false v 65535 e)))
+pub capped_already : (v : ℕ) → v ≤ 65536 → v ≡ capped v
+capped_already v h = case (leb v 65535) (λ e. rw e) (λ e. rw e (omega (arith, leb-false v 65535 e)))
 
 -- ---- the number of digits behind those of a value
 abbrev pub number_from : ℕ → List ℕ → ℕ
@@ -42,9 +42,9 @@ pub begins : (w : List ℕ) → ¬ (length w ≡ 0) → number_of w ≡ number_f
 begins w h = rw (ne_eqb (length w) 0 h)
 
 module _ (w : List ℕ) (v i : ℕ) where
-  pub one-digit : i < length w → digit (get_or w i 0) ≡ true
+  pub one_digit : i < length w → digit (get_or w i 0) ≡ true
       → number_from v (drop i w) ≡ number_from (capped (v * 10 + (get_or w i 0 - 48))) (drop (suc i) w)
-  one-digit h e = rw (drop-cons w i 0 h, e, capped-once (v * 10 + (get_or w i 0 - 48)) (drop (suc i) w))
+  one_digit h e = rw (drop-cons w i 0 h, e, capped_once (v * 10 + (get_or w i 0 - 48)) (drop (suc i) w))
 
   pub no_digit : i < length w → digit (get_or w i 0) ≡ false → number_from v (drop i w) ≡ none
   no_digit h e = rw (drop-cons w i 0 h, e)

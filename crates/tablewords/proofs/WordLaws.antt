@@ -21,8 +21,8 @@ module _ (c : Class) (l : List ℕ) (i : ℕ) where
   pub another : i < length l → holds c (get_or l i 0) ≡ false → length (leading c (drop i l)) ≡ 0
   another h e = rw (drop-cons l i 0 h, e)
 
-  pub at-the-end : i ≡ length l → length (leading c (drop i l)) ≡ 0
-  at-the-end e = rw (e, drop-length l)
+  pub at_the_end : i ≡ length l → length (leading c (drop i l)) ≡ 0
+  at_the_end e = rw (e, drop-length l)
 
 -- ---- a part of the list, and the rest of it
 pub take-leading : (c : Class) (l : List ℕ) → take (length (leading c l)) l ≡ leading c l
@@ -55,10 +55,10 @@ module _
         let size-of-rest : length (past Blank l) ≡ length l - from = ap length (sym rest) ∙ length-drop from l in
         omega (arith, f, spans, leading-fits Blank l, leading-fits Letter (past Blank l))
 
-    pub word-is-there : take (from + size - from) (drop from l) ≡ word l
-    word-is-there =
+    pub word_is_there : take (from + size - from) (drop from l) ≡ word l
+    word_is_there =
         let one : from + size - from ≡ size = omega arith in
         rw (one, rest, spans, take-leading Letter (past Blank l))
 
-    pub behind-is-there : drop (from + size) l ≡ behind l
-    behind-is-there = sym (drop-drop size from l) ∙ rw (rest, spans, drop-leading Letter (past Blank l))
+    pub behind_is_there : drop (from + size) l ≡ behind l
+    behind_is_there = sym (drop-drop size from l) ∙ rw (rest, spans, drop-leading Letter (past Blank l))

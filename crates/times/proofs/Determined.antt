@@ -2,27 +2,27 @@
 -- Assumes nothing.
 use mathlib.Core.Path.{sym, ◌∙◌}
 use Rattle.checks.specs.Determined.{Determined}
-use Rattle.times.proofs.overruns.Reads as overruns-reads
-use Rattle.times.proofs.passes.Reads as passes-reads
-use Rattle.times.proofs.is_late.Reads as is-late-reads
-use Rattle.times.proofs.is_early.Reads as is-early-reads
-use Rattle.times.proofs.bound.Reads as bound-reads
-use Rattle.times.proofs.beyond.Reads as beyond-reads
+use Rattle.times.proofs.overruns.Reads as overruns_reads
+use Rattle.times.proofs.passes.Reads as passes_reads
+use Rattle.times.proofs.is_late.Reads as is_late_reads
+use Rattle.times.proofs.is_early.Reads as is_early_reads
+use Rattle.times.proofs.bound.Reads as bound_reads
+use Rattle.times.proofs.beyond.Reads as beyond_reads
 
-pub overruns : Determined overruns-reads.Post
+pub overruns : Determined overruns_reads.Post
 overruns κs a x y at at' p q = p ∙ sym q
 
-pub passes : Determined passes-reads.Post
+pub passes : Determined passes_reads.Post
 passes κs a x y at at' p q = p ∙ sym q
 
-pub is-late : Determined is-late-reads.Post
-is-late κs a x y at at' p q = p ∙ sym q
+pub is_late : Determined is_late_reads.Post
+is_late κs a x y at at' p q = p ∙ sym q
 
-pub is-early : Determined is-early-reads.Post
-is-early κs a x y at at' p q = p ∙ sym q
+pub is_early : Determined is_early_reads.Post
+is_early κs a x y at at' p q = p ∙ sym q
 
-pub bound : Determined bound-reads.Post
+pub bound : Determined bound_reads.Post
 bound κs a x y at at' p q = p ∙ sym q
 
-pub beyond : Determined beyond-reads.Post
+pub beyond : Determined beyond_reads.Post
 beyond κs a x y at at' p q = p ∙ sym q

@@ -2,7 +2,7 @@
 -- Assumes nothing.
 use mathlib.Core.Path.{sym, ◌∙◌}
 use Rattle.checks.specs.Determined.{Determined}
-use Rattle.trace.proofs.phase_after.Reads as phase-after-reads
+use Rattle.trace.proofs.phase_after.Reads as phase_after_reads
 
-pub phase-after : Determined phase-after-reads.Post
+pub phase-after : Determined phase_after_reads.Post
 phase-after κs a x y at at' p q = p ∙ sym q

@@ -10,7 +10,7 @@ use Rattle.checks.proofs.Checks.{Holds}
 use Rattle.checks.proofs.Tests.{tests, both}
 use Rattle.limits.specs.declared.Table.{Table}
 use Rattle.phases.specs.Phases.{at_rest, done, error, order_of, unfinished, engine}
-use Rattle.phases.proofs.PhaseLaws.{unfinished-in, ordered}
+use Rattle.phases.proofs.PhaseLaws.{unfinished_in, ordered}
 use Rattle.shift.specs.declared.State.{State}
 use Rattle.shift.specs.declared.Step.{Step}
 use Rattle.shift.specs.declared.Step.TheVariants.{FromNeutral, GearToGear, ToNeutral, Deliver, DeviceGood, DeviceFailed, EngineWaits, Take, AskClutch, RaiseError, Finish, Tick, Reset}
@@ -22,23 +22,23 @@ use Rattle.promises.proofs.Runs.{checked, went_on}
 use Rattle.trace.specs.Traces.{Trace, trace_of, stepped, after}
 
 -- ---- projection
-pub projects-step : (s : State) (x : Step) → trace_of (led s (Means x)) ≡ stepped (trace_of s) x
-projects-step s FromNeutral = refl
-projects-step s GearToGear = refl
-projects-step s ToNeutral = refl
-projects-step s Deliver = refl
-projects-step s DeviceGood = refl
-projects-step s DeviceFailed = refl
-projects-step s EngineWaits = refl
-projects-step s Take = refl
-projects-step s AskClutch = refl
-projects-step s RaiseError = refl
-projects-step s Finish = refl
-projects-step s (Tick n) = refl
-projects-step s Reset = refl
+pub projects_step : (s : State) (x : Step) → trace_of (led s (Means x)) ≡ stepped (trace_of s) x
+projects_step s FromNeutral = refl
+projects_step s GearToGear = refl
+projects_step s ToNeutral = refl
+projects_step s Deliver = refl
+projects_step s DeviceGood = refl
+projects_step s DeviceFailed = refl
+projects_step s EngineWaits = refl
+projects_step s Take = refl
+projects_step s AskClutch = refl
+projects_step s RaiseError = refl
+projects_step s Finish = refl
+projects_step s (Tick n) = refl
+projects_step s Reset = refl
 
 pub projects : (s : State) (r : Reading) → trace_of (led s r) ≡ after (trace_of s) r
-projects s (Means x) = projects-step s x
+projects s (Means x) = projects_step s x
 projects s WrongCode = refl
 projects s WrongAmount = refl
 
@@ -82,7 +82,7 @@ allowed-step t s AskClutch h =
     let p = s.phase in
     let a = h.1.1.1.0 in
     let b = h.1.1.1.1.0 in
-    let i = unfinished-in p (running p a b) in
+    let i = unfinished_in p (running p a b) in
     let o : 1 ≤ order_of p = ordered p i.0 (omega arith) in
     both (unfinished p) (engine p) (running p a b) (both (leb 1 (order_of p)) (leb (order_of p) 2) (omega (arith, tests)) h.1.1.1.1.1.1.0)
 allowed-step t s RaiseError h = running s.phase h.1.1.1.0 h.1.1.1.1.0
@@ -90,29 +90,29 @@ allowed-step t s Finish h = h.1.1.1.0
 allowed-step t s (Tick n) h = tt
 allowed-step t s Reset h = h.1.1.1.0
 
-clocked-step : (t : Table) (s : State) (x : Step) → Holds (checks t s (Means x)) → s.clock ≤ 4294967295 → (stepped (trace_of s) x).clock ≤ 4294967295
-clocked-step t s FromNeutral h c = c
-clocked-step t s GearToGear h c = c
-clocked-step t s ToNeutral h c = c
-clocked-step t s Deliver h c = c
-clocked-step t s DeviceGood h c = c
-clocked-step t s DeviceFailed h c = c
-clocked-step t s EngineWaits h c = c
-clocked-step t s Take h c = c
-clocked-step t s AskClutch h c = c
-clocked-step t s RaiseError h c = c
-clocked-step t s Finish h c = c
-clocked-step t s (Tick n) h c = omega (arith, tests)
-clocked-step t s Reset h c = c
+clocked_step : (t : Table) (s : State) (x : Step) → Holds (checks t s (Means x)) → s.clock ≤ 4294967295 → (stepped (trace_of s) x).clock ≤ 4294967295
+clocked_step t s FromNeutral h c = c
+clocked_step t s GearToGear h c = c
+clocked_step t s ToNeutral h c = c
+clocked_step t s Deliver h c = c
+clocked_step t s DeviceGood h c = c
+clocked_step t s DeviceFailed h c = c
+clocked_step t s EngineWaits h c = c
+clocked_step t s Take h c = c
+clocked_step t s AskClutch h c = c
+clocked_step t s RaiseError h c = c
+clocked_step t s Finish h c = c
+clocked_step t s (Tick n) h c = omega (arith, tests)
+clocked_step t s Reset h c = c
 
-pub accepted-sound :
+pub accepted_sound :
     (t : Table) (s : State) (rs : List Reading) → s.clock ≤ 4294967295 → (run t s rs).number ≡ 0 → Sound (trace_of s) rs
-accepted-sound t s [] c e = tt
-accepted-sound t s (Means x ∷ rs) c e =
+accepted_sound t s [] c e = tt
+accepted_sound t s (Means x ∷ rs) c e =
     let w = went_on (guard t s (Means x)) (excess t s (Means x) (guard t s (Means x))) s (run t (led s (Means x)) rs) e in
     let h = checked t s x w.0 in
-    let k = clocked-step t s x h c in
-    let same = projects-step s x in
-    (allowed-step t s x h, k, subst (λ q. Sound q rs) same (accepted-sound t (led s (Means x)) rs (subst (λ (q : Trace). q.clock ≤ 4294967295) (sym same) k) w.1))
-accepted-sound t s (WrongCode ∷ rs) c e = let w = went_on (guard t s WrongCode) (excess t s WrongCode (guard t s WrongCode)) s (run t (led s WrongCode) rs) e in absurd (omega arith)
-accepted-sound t s (WrongAmount ∷ rs) c e = let w = went_on (guard t s WrongAmount) (excess t s WrongAmount (guard t s WrongAmount)) s (run t (led s WrongAmount) rs) e in absurd (omega arith)
+    let k = clocked_step t s x h c in
+    let same = projects_step s x in
+    (allowed-step t s x h, k, subst (λ q. Sound q rs) same (accepted_sound t (led s (Means x)) rs (subst (λ (q : Trace). q.clock ≤ 4294967295) (sym same) k) w.1))
+accepted_sound t s (WrongCode ∷ rs) c e = let w = went_on (guard t s WrongCode) (excess t s WrongCode (guard t s WrongCode)) s (run t (led s WrongCode) rs) e in absurd (omega arith)
+accepted_sound t s (WrongAmount ∷ rs) c e = let w = went_on (guard t s WrongAmount) (excess t s WrongAmount (guard t s WrongAmount)) s (run t (led s WrongAmount) rs) e in absurd (omega arith)

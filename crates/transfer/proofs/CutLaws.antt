@@ -18,23 +18,23 @@ drop-take (suc k) (suc n) [] = sym (take-nil (suc n - suc k))
 drop-take (suc k) (suc n) (x ∷ xs) = simp suc-sub-suc (drop-take k n xs)
 
 -- two beginnings of one list agree
-agree-takes : (m n : ℕ) (xs : List ℕ) → agree (take m xs) (take n xs) ≡ true
-agree-takes zero n xs = refl
-agree-takes (suc m) zero [] = refl
-agree-takes (suc m) zero (x ∷ xs) = refl
-agree-takes (suc m) (suc n) [] = refl
-agree-takes (suc m) (suc n) (x ∷ xs) = rw (eq-eqb x x refl) (agree-takes m n xs)
+agree_takes : (m n : ℕ) (xs : List ℕ) → agree (take m xs) (take n xs) ≡ true
+agree_takes zero n xs = refl
+agree_takes (suc m) zero [] = refl
+agree_takes (suc m) zero (x ∷ xs) = refl
+agree_takes (suc m) (suc n) [] = refl
+agree_takes (suc m) (suc n) (x ∷ xs) = rw (eq-eqb x x refl) (agree_takes m n xs)
 
 -- the held bytes are a beginning of the file, the part is cut from it, and begins within them
 module _ (file buffer : List ℕ) (held offset : ℕ) (part : List ℕ) (l : offset ≤ held) (h : held ≤ length file)
     (begins : take held buffer ≡ take held file) (within : offset + length part ≤ length file)
     (bytes : part ≡ take (length part) (drop offset file)) where
-  pub overlap-agrees : agree (drop offset (take held buffer)) part ≡ true
-  overlap-agrees =
+  pub overlap_agrees : agree (drop offset (take held buffer)) part ≡ true
+  overlap_agrees =
       ap (λ (xs : List ℕ). agree (drop offset xs) part) begins
       ∙ ap (λ (xs : List ℕ). agree xs part) (drop-take offset held file)
       ∙ ap (λ (xs : List ℕ). agree (take (held - offset) (drop offset file)) xs) bytes
-      ∙ agree-takes (held - offset) (length part) (drop offset file)
+      ∙ agree_takes (held - offset) (length part) (drop offset file)
 
   rest : drop (held - offset) part ≡ take (new_count held offset part - held) (drop held file)
   rest =
@@ -52,8 +52,8 @@ module _ (file buffer : List ℕ) (held offset : ℕ) (part : List ℕ) (l : off
       rw (length-append (take held buffer) (drop (held - offset) part), begins, length-take-le held file h, length-drop)
       (omega arith)
 
-  pub still-begins : take (new_count held offset part) (appended buffer held offset part) ≡ take (new_count held offset part) file
-  still-begins =
+  pub still_begins : take (new_count held offset part) (appended buffer held offset part) ≡ take (new_count held offset part) file
+  still_begins =
       let count : held + (new_count held offset part - held) ≡ new_count held offset part = omega arith in
       let behind = drop (new_count held offset part) buffer in
       take_at (take held buffer ++ drop (held - offset) part) behind (new_count held offset part) joined_length

@@ -47,8 +47,8 @@ module _ (buffer : List ℕ) (held offset : ℕ) (part : List ℕ) where
 
   -- the bytes held before stay, and so do those beyond the new count
   module _ (h : held ≤ length buffer) (l : offset ≤ held) where
-    pub held-stay : take held (appended buffer held offset part) ≡ take held buffer
-    held-stay =
+    pub held_stay : take held (appended buffer held offset part) ≡ take held buffer
+    held_stay =
         rw (append_assoc (take held buffer) (drop (held - offset) part) (drop (new_count held offset part) buffer))
         (take_at
         (take held buffer)
@@ -56,9 +56,9 @@ module _ (buffer : List ℕ) (held offset : ℕ) (part : List ℕ) where
         held
         (length-take-le held buffer h))
 
-    pub beyond-stay :
+    pub beyond_stay :
         drop (new_count held offset part) (appended buffer held offset part) ≡ drop (new_count held offset part) buffer
-    beyond-stay =
+    beyond_stay =
         drop_at
         (take held buffer ++ drop (held - offset) part)
         (drop (new_count held offset part) buffer)
@@ -66,18 +66,18 @@ module _ (buffer : List ℕ) (held offset : ℕ) (part : List ℕ) where
         (simp (length-append, length-take, length-drop) (omega arith))
 
   -- a part that ends within the bytes held: nothing is appended
-  pub count-inside : offset + length part ≤ held → new_count held offset part ≡ held
-  count-inside h = max-eq_left h
+  pub count_inside : offset + length part ≤ held → new_count held offset part ≡ held
+  count_inside h = max-eq_left h
 
-  pub appended-inside : offset ≤ held → offset + length part ≤ held → appended buffer held offset part ≡ buffer
-  appended-inside l h =
-      rw (count-inside h, drop_of_length-le part {i = held - offset} (omega arith), append-nil (take held buffer))
+  pub appended_inside : offset ≤ held → offset + length part ≤ held → appended buffer held offset part ≡ buffer
+  appended_inside l h =
+      rw (count_inside h, drop_of_length-le part {i = held - offset} (omega arith), append-nil (take held buffer))
       (take-append-drop held buffer)
 
   pub inside :
       offset ≤ held → offset + length part ≤ held → refusal buffer held offset part ≡ 0
       → (record { number = 0; held = held } ≡ joined buffer held offset part) × (buffer ≡ buffer_after buffer held offset part)
-  inside l h e = (rw (e, count-inside h), rw (e, appended-inside l h))
+  inside l h e = (rw (e, count_inside h), rw (e, appended_inside l h))
 
   -- a part that ends beyond them: its rest is copied into what is lent of the buffer, from the bytes held on
   module _ (l : offset ≤ held) (k : held - offset < length part) (fits : offset + length part ≤ length buffer) where

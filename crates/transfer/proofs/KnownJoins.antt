@@ -14,32 +14,32 @@ abbrev pub gives : ℕ → ℕ → Joined
 gives n count = record { number = n; held = count }
 
 -- more held than the buffer has: 15, even for an empty part at offset 0, and before 14
-pub no-room-for-held : joined buffer 6 0 [] ≡ gives 15 6
-no-room-for-held = refl
+pub no_room_for_held : joined buffer 6 0 [] ≡ gives 15 6
+no_room_for_held = refl
 
-pub held-before-offset : joined buffer 6 7 [] ≡ gives 15 6
-held-before-offset = refl
+pub held_before_offset : joined buffer 6 7 [] ≡ gives 15 6
+held_before_offset = refl
 
 -- a part that begins beyond the bytes held: 14, even if empty, and before 15; also at the largest offset there is
 pub gap : joined buffer 3 4 [] ≡ gives 14 3
 gap = refl
 
-pub gap-before-no-room : joined buffer 3 18446744073709551615 (14 ∷ []) ≡ gives 14 3
-gap-before-no-room = refl
+pub gap_before_no_room : joined buffer 3 18446744073709551615 (14 ∷ []) ≡ gives 14 3
+gap_before_no_room = refl
 
 -- a part that does not fit: 15, even if the overlap differs
 pub no_room : joined buffer 3 3 (14 ∷ 15 ∷ 16 ∷ []) ≡ gives 15 3
 no_room = refl
 
-pub no-room-before-overlap : joined buffer 3 2 (99 ∷ 14 ∷ 15 ∷ 16 ∷ []) ≡ gives 15 3
-no-room-before-overlap = refl
+pub no_room_before_overlap : joined buffer 3 2 (99 ∷ 14 ∷ 15 ∷ 16 ∷ []) ≡ gives 15 3
+no_room_before_overlap = refl
 
 -- an overlap that differs, in a part that reaches further and in one that ends inside
 pub overlap : (joined buffer 3 1 (12 ∷ 99 ∷ 14 ∷ []) ≡ gives 16 3) × (buffer_after buffer 3 1 (12 ∷ 99 ∷ 14 ∷ []) ≡ buffer)
 overlap = (refl, refl)
 
-pub overlap-inside : joined buffer 3 0 (11 ∷ 99 ∷ []) ≡ gives 16 3
-overlap-inside = refl
+pub overlap_inside : joined buffer 3 0 (11 ∷ 99 ∷ []) ≡ gives 16 3
+overlap_inside = refl
 
 -- accepted: resumed one byte back, at the end of what is held, inside it, and empty
 pub resumed :

@@ -9,9 +9,9 @@ use lib.ListN.{length, take, drop, length-append}
 use lib.Seq.{take_at, take-take, take-length, drop-append_seam, length-take-le}
 use Rattle.checks.proofs.Tests.{tests}
 use Rattle.transfer.specs.Transfers.{Arrival, Store, empty, answer, after, after_all, Cut, AcceptedCut, Begins}
-use Rattle.transfer.proofs.JoinLaws.{refused-at, inside, count-inside, appended-inside, length-appended}
+use Rattle.transfer.proofs.JoinLaws.{refused-at, inside, count_inside, appended_inside, length-appended}
 use Rattle.transfer.proofs.CutLaws.{drop-take}
-use Rattle.transfer.proofs.Transfers.{grown, refused-keeps, accepted-grows, either_way, accepted-holds, beyond-refused, cut-accepted, beginning}
+use Rattle.transfer.proofs.Transfers.{grown, refused_keeps, accepted_grows, either_way, accepted_holds, beyond_refused, cut_accepted, beginning}
 
 -- ---- a block that comes again, and one that comes too early
 
@@ -27,26 +27,26 @@ module _ (s : Store) (a : Arrival) (fits : s.held ≤ length s.buffer) where
       let end : a.offset + length a.part ≤ length (take s.held s.buffer) = c.within in
       let same = sym (take-take s.held s.held s.buffer (omega arith)) in
       let begins : Begins (take s.held s.buffer) s = record { within = omega arith; bytes = same } in
-      let e = cut-accepted (take s.held s.buffer) s a begins (omega arith) c (omega arith) in (
+      let e = cut_accepted (take s.held s.buffer) s a begins (omega arith) c (omega arith) in (
         sym (inside s.buffer s.held a.offset a.part (omega arith) (omega arith) e).0,
-        accepted-grows s a e
+        accepted_grows s a e
             ∙ rw (
-              appended-inside s.buffer s.held a.offset a.part (omega arith) (omega arith),
-              count-inside s.buffer s.held a.offset a.part (omega arith),
+              appended_inside s.buffer s.held a.offset a.part (omega arith) (omega arith),
+              count_inside s.buffer s.held a.offset a.part (omega arith),
             ),
       )
 
   -- any part that begins beyond the held bytes is refused with 14 and changes nothing
-  pub too-early : s.held < a.offset → Keeps 14 s a
-  too-early l = (
+  pub too_early : s.held < a.offset → Keeps 14 s a
+  too_early l = (
     sym (refused-at s.buffer s.held a.offset a.part 1 refl (omega (arith, tests))).0,
-    refused-keeps s a (rw (beyond-refused s a fits l)),
+    refused_keeps s a (rw (beyond_refused s a fits l)),
   )
 
 -- ---- the count held never exceeds the buffer
 grown-fits : (s : Store) (a : Arrival) → (answer s a).number ≡ 0 → (grown s a).held ≤ length (grown s a).buffer
 grown-fits s a e =
-    let h = accepted-holds s a e in
+    let h = accepted_holds s a e in
     let in_buffer : s.held ≤ length s.buffer = omega (arith, tests) in
     let in_held : a.offset ≤ s.held = omega (arith, tests) in
     let end : a.offset + length a.part ≤ length s.buffer = omega (arith, tests) in
@@ -70,11 +70,11 @@ module _ (buffer : List ℕ) (arrivals : List Arrival) where
   night-fits = all_fit (empty buffer) arrivals (omega arith)
 
   -- a block of the file that the accepted parts are cut from, with every byte of it held
-  pub block-again :
+  pub block_again :
       (file : List ℕ) (a : Arrival) → AcceptedCut file (empty buffer) arrivals → Cut file a
       → a.offset + length a.part ≤ (after_all (empty buffer) arrivals).held
       → Keeps 0 (after_all (empty buffer) arrivals) a
-  block-again file a accepted cut l =
+  block_again file a accepted cut l =
       let b = beginning file buffer arrivals accepted in
       let count = length-take-le night.held night.buffer night-fits in
       repeated night a night-fits
@@ -89,9 +89,9 @@ module _ (buffer : List ℕ) (arrivals : List Arrival) where
       })
 
   -- any part at all
-  pub block-early :
+  pub block_early :
       (a : Arrival) → (after_all (empty buffer) arrivals).held < a.offset → Keeps 14 (after_all (empty buffer) arrivals) a
-  block-early a l = too-early night a night-fits l
+  block_early a l = too_early night a night-fits l
 
 -- ---- a block that is the last of the bytes held, and a block under an offset
 abbrev pub holding : List ℕ → List ℕ → List ℕ → Store
@@ -107,8 +107,8 @@ module _ (before block room : List ℕ) where
   holding-fits : length before + length block ≤ length (before ++ block ++ room)
   holding-fits = simp length-append (omega arith)
 
-  pub last-again : Keeps 0 (holding before block room) (under (length before) block)
-  last-again =
+  pub last_again : Keeps 0 (holding before block room) (under (length before) block)
+  last_again =
       repeated (holding before block room) (under (length before) block) holding-fits
       (record {
         within = rw (held_bytes, length-append before block) (omega arith);
@@ -116,7 +116,7 @@ module _ (before block room : List ℕ) where
       })
 
   pub last-early : (n : ℕ) → length before + length block < n → Keeps 14 (holding before block room) (under n block)
-  last-early n l = too-early (holding before block room) (under n block) holding-fits l
+  last-early n l = too_early (holding before block room) (under n block) holding-fits l
 
 -- ---- forty steps, in four bytes each: ticks of 1 to 40 milliseconds
 abbrev pub ticks : ℕ → ℕ → List ℕ
@@ -126,12 +126,12 @@ ticks n (suc count) = 12 ∷ 0 ∷ n ∷ 0 ∷ ticks (suc n) count
 abbrev pub forty_steps : List ℕ
 forty_steps = ticks 1 40
 
-pub forty-length : length forty_steps ≡ 160
-forty-length = refl
+pub forty_length : length forty_steps ≡ 160
+forty_length = refl
 
 module _ (before room : List ℕ) where
-  pub forty-again : Keeps 0 (holding before forty_steps room) (under (length before) forty_steps)
-  forty-again = last-again before forty_steps room
+  pub forty_again : Keeps 0 (holding before forty_steps room) (under (length before) forty_steps)
+  forty_again = last_again before forty_steps room
 
-  pub forty-early : (n : ℕ) → length before + 160 < n → Keeps 14 (holding before forty_steps room) (under n forty_steps)
-  forty-early n l = last-early before forty_steps room n l
+  pub forty_early : (n : ℕ) → length before + 160 < n → Keeps 14 (holding before forty_steps room) (under n forty_steps)
+  forty_early n l = last-early before forty_steps room n l

@@ -16,7 +16,7 @@ use Rattle.checks.proofs.ConditionLaws.{first_of, one_of}
 use Rattle.checks.proofs.Tests.{tests, case, left, right}
 use Rattle.transfer.specs.Join.{agree, checks, refusal, joined, buffer_after}
 use Rattle.transfer.specs.Refusals.{Differs, refusals, JoinAnswers}
-use Rattle.transfer.proofs.join.Reads as join-reads
+use Rattle.transfer.proofs.join.Reads as join_reads
 
 -- ---- two lists that agree have the same bytes as far as both reach, and two that do not differ at a place
 record Apart (xs ys : List ℕ) : Type 0 where
@@ -44,8 +44,8 @@ same (x ∷ xs) (y ∷ ys) h (suc i) l m = same xs ys (right (eqb x y) (agree xs
 module _ (buffer : List ℕ) (held offset : ℕ) (part : List ℕ) where
   -- ---- the overlap
   module _ (fits : held ≤ length buffer) where
-    overlap-length : length (drop offset (take held buffer)) ≡ held - offset
-    overlap-length = rw (length-drop, length-take-le held buffer fits)
+    overlap_length : length (drop offset (take held buffer)) ≡ held - offset
+    overlap_length = rw (length-drop, length-take-le held buffer fits)
 
     byte : (i : ℕ) → offset + i < held → get_or (drop offset (take held buffer)) i 0 ≡ get_or buffer (offset + i) 0
     byte i l = get_or-drop offset (take held buffer) i 0 ∙ get_or-take held buffer (offset + i) 0 l
@@ -53,10 +53,10 @@ module _ (buffer : List ℕ) (held offset : ℕ) (part : List ℕ) where
     differs : T (not (agree (drop offset (take held buffer)) part)) → Differs buffer held offset part
     differs t =
         let a = apart (drop offset (take held buffer)) part t in
-        let l : a.place < held - offset = rw (← overlap-length) a.in_left in
+        let l : a.place < held - offset = rw (← overlap_length) a.in_left in
         record {
           place = a.place;
-          in-part = a.in_right;
+          in_part = a.in_right;
           in_held = omega arith;
           other = λ e. a.other (e ∙ sym (byte a.place (omega arith)));
         }
@@ -65,7 +65,7 @@ module _ (buffer : List ℕ) (held offset : ℕ) (part : List ℕ) where
     agrees t d =
         let l : offset + d.place < held = d.in_held in
         d.other
-        (same (drop offset (take held buffer)) part t d.place (rw overlap-length (omega arith)) d.in-part
+        (same (drop offset (take held buffer)) part t d.place (rw overlap_length (omega arith)) d.in_part
         ∙ byte d.place d.in_held)
 
   in_order : FirstOf (refusals buffer held offset part) (refusal buffer held offset part)
@@ -79,10 +79,10 @@ module _ (buffer : List ℕ) (held offset : ℕ) (part : List ℕ) where
       ))
       (λ f. rw f (inl (leb-false held (length buffer) f, refl)))
 
-  pub join-answers :
+  pub join_answers :
       JoinAnswers buffer held offset part (joined buffer held offset part).number (joined buffer held offset part).held
       (buffer_after buffer held offset part)
-  join-answers =
+  join_answers =
       record {
         first = in_order;
         numbers =
@@ -94,6 +94,6 @@ module _ (buffer : List ℕ) (held offset : ℕ) (part : List ℕ) where
       }
 
 pub join :
-    (κs : _) (a : _) (r : _) (at : _) → join-reads.Post κs a r at
+    (κs : _) (a : _) (r : _) (at : _) → join_reads.Post κs a r at
     → JoinAnswers a.0.now a.1.0 a.1.1.0 a.1.1.1.0.now r.number r.held at.0.now
-join κs a r at p = rw (p.0, p.1) (join-answers a.0.now a.1.0 a.1.1.0 a.1.1.1.0.now)
+join κs a r at p = rw (p.0, p.1) (join_answers a.0.now a.1.0 a.1.1.0 a.1.1.1.0.now)

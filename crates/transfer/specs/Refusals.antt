@@ -7,7 +7,7 @@ use Rattle.checks.specs.Conditions.{Condition, ◌gives◌, FirstOf, OneOf}
 -- the overlap differs: at a place of the part that is held already, the part has another byte than the buffer
 pub record Differs (buffer : List ℕ) (held offset : ℕ) (part : List ℕ) : Type 0 where
   pub place : ℕ
-  pub in-part : place < length part
+  pub in_part : place < length part
   pub in_held : offset + place < held
   pub other : ¬ (get_or part place 0 ≡ get_or buffer (offset + place) 0)
 

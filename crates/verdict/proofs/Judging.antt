@@ -9,12 +9,12 @@ use native.Mathlib.Omega.{arith}
 use lib.ListN.{length, drop}
 use borrow.Author.Tests.{eq-eqb}
 use Rattle.limits.specs.declared.Table.{Table}
-use Rattle.promises.proofs.Runs.{counted, counted-one, goes_on, stops}
+use Rattle.promises.proofs.Runs.{counted, counted_one, goes_on, stops}
 use Rattle.shift.specs.declared.State.{State}
 use Rattle.shift.specs.declared.Answer.{Answer}
 use Rattle.shift.specs.States.{start}
 use Rattle.shift.specs.Answers.{guard, refused as refused_with, judged}
-use Rattle.shift.proofs.ExcessLaws.{refused-below-9}
+use Rattle.shift.proofs.ExcessLaws.{refused_below_9}
 use Rattle.shift.specs.Runs.{Outcome, run}
 use Rattle.stepfile.specs.declared.Refusal.{Refusal}
 use Rattle.stepfile.specs.Records.{records_in}
@@ -33,7 +33,7 @@ module _ (t : Table) (l : List ℕ) (s : State) (k i : ℕ) where
         let rest = records_in (drop (i + 4) l) in
         ap (λ rs. counted k (run t s rs)) (one_more l i h)
         ∙ ap (counted k) (goes_on t s (record_at l i) rest a e z)
-        ∙ counted-one k s (run t a.state rest)
+        ∙ counted_one k s (run t a.state rest)
 
     pub refused : ¬ (a.number ≡ 0) → left t l s k i ≡ record { count = k; number = a.number; excess = a.excess; state = s }
     refused n =
@@ -55,13 +55,13 @@ module _ (t : Table) (l : List ℕ) (s : State) where
       → record { number = k; rule = 0; index = 0; excess = 0; state = s } ≡ of_run (run t s (records_in l))
   at_once k h e n m =
       let a : Answer = refused_with k 0 s in
-      let answered = refused-below-9 t s (record_at l 0) k e n m in
+      let answered = refused_below_9 t s (record_at l 0) k e n m in
       sym (ap of_run (sym all_left ∙ refused t l s 0 0 h a answered n))
 
 -- ---- a file that is not read, and one that is
-not-read : (k : ℕ) (r : Refusal) (o : Outcome) → ¬ (k ≡ 0) → unread r ≡ reading k r o
-not-read zero r o n = absurd (n refl)
-not-read (suc k) r o n = refl
+not_read : (k : ℕ) (r : Refusal) (o : Outcome) → ¬ (k ≡ 0) → unread r ≡ reading k r o
+not_read zero r o n = absurd (n refl)
+not_read (suc k) r o n = refl
 
 read : (k : ℕ) (r : Refusal) (o : Outcome) → k ≡ 0 → of_run o ≡ reading k r o
 read zero r o z = refl
@@ -69,7 +69,7 @@ read (suc k) r o z = absurd (omega arith)
 
 module _ (f : List ℕ) where
   pub unread-file : ¬ ((refusal_of f).number ≡ 0) → unread (refusal_of f) ≡ verdict_of f
-  unread-file = not-read (refusal_of f).number (refusal_of f) (run (table_in f) start (readings_of f))
+  unread-file = not_read (refusal_of f).number (refusal_of f) (run (table_in f) start (readings_of f))
 
   pub read-verdict : (refusal_of f).number ≡ 0 → of_run (run (table_in f) start (readings_of f)) ≡ verdict_of f
   read-verdict = read (refusal_of f).number (refusal_of f) (run (table_in f) start (readings_of f))

@@ -14,139 +14,139 @@ use Rattle.checks.proofs.Checks.{between}
 use Rattle.checks.proofs.Tests.{case}
 use Rattle.limits.specs.declared.Table.{Table}
 use Rattle.line.specs.Refusals.{LineAnswers}
-use Rattle.line.proofs.Refusals.{line-answers}
+use Rattle.line.proofs.Refusals.{line_answers}
 use Rattle.promises.specs.Verdicts.{at}
 use Rattle.promises.specs.HowFar.{HowFar}
-use Rattle.promises.proofs.OneStep.{refused-in-the-document's-words}
-use Rattle.promises.proofs.ExcessLaws.{how-far}
+use Rattle.promises.proofs.OneStep.{refused_in_the_document's_words}
+use Rattle.promises.proofs.ExcessLaws.{how_far}
 use Rattle.shift.specs.declared.State.{State}
 use Rattle.shift.specs.declared.Reading.{Reading}
 use Rattle.shift.specs.declared.Reading.TheVariants.{Means, WrongCode, WrongAmount}
 use Rattle.shift.specs.declared.Step.TheVariants.{FromNeutral, GearToGear, ToNeutral, Deliver, DeviceGood, DeviceFailed, EngineWaits, Take, AskClutch, RaiseError, Finish, Tick, Reset}
 use Rattle.shift.specs.Answers.{reading, checks, guard, led, excess}
 use Rattle.shift.proofs.Refusals.{reads}
-use Rattle.shift.proofs.ExcessLaws.{none-below-9}
+use Rattle.shift.proofs.ExcessLaws.{none_below_9}
 use Rattle.stepfile.specs.Files.{table_in, refusal_of, readings_of}
 use Rattle.stepfile.specs.Refusals.{bits16, table_behind, file_refusals, place}
-use Rattle.stepfile.proofs.GoodFiles.{read-there}
-use Rattle.stepfile.proofs.FileRefusals.{ruled, file-answers}
+use Rattle.stepfile.proofs.GoodFiles.{read_there}
+use Rattle.stepfile.proofs.FileRefusals.{ruled, file_answers}
 use Rattle.verdict.specs.declared.Verdict.{Verdict}
 use Rattle.verdict.specs.Verdicts.{unread, verdict_of}
 use Rattle.verdict.specs.Said.{line_for}
 use Rattle.verdict.specs.Refusals.{refusals_at, HowFarAt, JudgeAnswers}
 use Rattle.verdict.proofs.Judging.{unread-file, read-verdict}
-use Rattle.verdict.proofs.Verdicts.{read-files}
-use Rattle.verdict.proofs.judge.Reads as judge-reads
+use Rattle.verdict.proofs.Verdicts.{read_files}
+use Rattle.verdict.proofs.judge.Reads as judge_reads
 use Rattle.verdict.proofs.line.Reads as line_reads_lem
 
 -- what a step is refused with
-guard-numbers : (t : Table) (s : State) (r : Reading) → (guard t s r ≡ 0) ⊎ ((5 ≤ guard t s r) × (guard t s r ≤ 13))
-guard-numbers t s (Means FromNeutral) = between 5 13 (checks t s (Means FromNeutral)) tt
-guard-numbers t s (Means GearToGear) = between 5 13 (checks t s (Means GearToGear)) tt
-guard-numbers t s (Means ToNeutral) = between 5 13 (checks t s (Means ToNeutral)) tt
-guard-numbers t s (Means Deliver) = between 5 13 (checks t s (Means Deliver)) tt
-guard-numbers t s (Means DeviceGood) = between 5 13 (checks t s (Means DeviceGood)) tt
-guard-numbers t s (Means DeviceFailed) = between 5 13 (checks t s (Means DeviceFailed)) tt
-guard-numbers t s (Means EngineWaits) = between 5 13 (checks t s (Means EngineWaits)) tt
-guard-numbers t s (Means Take) = between 5 13 (checks t s (Means Take)) tt
-guard-numbers t s (Means AskClutch) = between 5 13 (checks t s (Means AskClutch)) tt
-guard-numbers t s (Means RaiseError) = between 5 13 (checks t s (Means RaiseError)) tt
-guard-numbers t s (Means Finish) = between 5 13 (checks t s (Means Finish)) tt
-guard-numbers t s (Means (Tick n)) = between 5 13 (checks t s (Means (Tick n))) tt
-guard-numbers t s (Means Reset) = between 5 13 (checks t s (Means Reset)) tt
-guard-numbers t s WrongCode = between 5 13 (checks t s WrongCode) tt
-guard-numbers t s WrongAmount = between 5 13 (checks t s WrongAmount) tt
+guard_numbers : (t : Table) (s : State) (r : Reading) → (guard t s r ≡ 0) ⊎ ((5 ≤ guard t s r) × (guard t s r ≤ 13))
+guard_numbers t s (Means FromNeutral) = between 5 13 (checks t s (Means FromNeutral)) tt
+guard_numbers t s (Means GearToGear) = between 5 13 (checks t s (Means GearToGear)) tt
+guard_numbers t s (Means ToNeutral) = between 5 13 (checks t s (Means ToNeutral)) tt
+guard_numbers t s (Means Deliver) = between 5 13 (checks t s (Means Deliver)) tt
+guard_numbers t s (Means DeviceGood) = between 5 13 (checks t s (Means DeviceGood)) tt
+guard_numbers t s (Means DeviceFailed) = between 5 13 (checks t s (Means DeviceFailed)) tt
+guard_numbers t s (Means EngineWaits) = between 5 13 (checks t s (Means EngineWaits)) tt
+guard_numbers t s (Means Take) = between 5 13 (checks t s (Means Take)) tt
+guard_numbers t s (Means AskClutch) = between 5 13 (checks t s (Means AskClutch)) tt
+guard_numbers t s (Means RaiseError) = between 5 13 (checks t s (Means RaiseError)) tt
+guard_numbers t s (Means Finish) = between 5 13 (checks t s (Means Finish)) tt
+guard_numbers t s (Means (Tick n)) = between 5 13 (checks t s (Means (Tick n))) tt
+guard_numbers t s (Means Reset) = between 5 13 (checks t s (Means Reset)) tt
+guard_numbers t s WrongCode = between 5 13 (checks t s WrongCode) tt
+guard_numbers t s WrongAmount = between 5 13 (checks t s WrongAmount) tt
 
 module _ (f : List ℕ) where
-  not-read : ¬ ((refusal_of f).number ≡ 0) → JudgeAnswers f (unread (refusal_of f))
-  not-read n =
-      let file = file-answers f in
+  not_read : ¬ ((refusal_of f).number ≡ 0) → JudgeAnswers f (unread (refusal_of f))
+  not_read n =
+      let file = file_answers f in
       let most = file.numbers in
       record {
         unread = λ _. (file.first, refl, refl);
         read = ⊎_elim (λ z. absurd (n z)) (λ l. absurd (omega arith));
         refused = λ l. absurd (omega arith);
-        how-far = λ l. absurd (omega arith);
+        how_far = λ l. absurd (omega arith);
         none_over = λ _. refl;
         numbers = omega arith;
-        rule-for = file.rule-for;
+        rule_for = file.rule_for;
       }
 
   module _ (z : (refusal_of f).number ≡ 0) where
     abbrev verdict : Verdict
     verdict = verdict_of f
 
-    read-numbers : (verdict.number ≡ 0) ⊎ ((5 ≤ verdict.number) × (verdict.number ≤ 13))
-    read-numbers =
+    read_numbers : (verdict.number ≡ 0) ⊎ ((5 ≤ verdict.number) × (verdict.number ≤ 13))
+    read_numbers =
         case (eqb verdict.number 0)
         (λ t. inl (eqb-true verdict.number 0 t))
         (λ t.
-        let there = ((read-files f z).refused (eqb-false verdict.number 0 t)).1 in
+        let there = ((read_files f z).refused (eqb-false verdict.number 0 t)).1 in
         subst (λ n. (n ≡ 0) ⊎ ((5 ≤ n) × (n ≤ 13))) there
-        (guard-numbers (table_in f) verdict.state (at (readings_of f) verdict.index)))
+        (guard_numbers (table_in f) verdict.state (at (readings_of f) verdict.index)))
 
-    read-rule : verdict.rule ≡ 0
-    read-rule = ap (λ (v : Verdict). v.rule) (sym (read-verdict f z))
+    read_rule : verdict.rule ≡ 0
+    read_rule = ap (λ (v : Verdict). v.rule) (sym (read-verdict f z))
 
-    refused-there : ¬ (verdict.number ≡ 0) → FirstOf (refusals_at f verdict.index verdict.state) verdict.number
-    refused-there n =
+    refused_there : ¬ (verdict.number ≡ 0) → FirstOf (refusals_at f verdict.index verdict.state) verdict.number
+    refused_there n =
         let there = place f verdict.index in
-        let stop = (read-files f z).refused n in
+        let stop = (read_files f z).refused n in
         subst (FirstOf (refusals_at f verdict.index verdict.state))
-        (ap (guard (table_in f) verdict.state) (sym (read-there f z verdict.index stop.0)) ∙ stop.1)
-        (refused-in-the-document's-words (table_in f) verdict.state (get_or f there 0) (get_or f (there + 1) 0) (bits16 f (there + 2)))
+        (ap (guard (table_in f) verdict.state) (sym (read_there f z verdict.index stop.0)) ∙ stop.1)
+        (refused_in_the_document's_words (table_in f) verdict.state (get_or f there 0) (get_or f (there + 1) 0) (bits16 f (there + 2)))
 
     -- so far over, as what the record at the index means
-    over-there : ¬ (verdict.number ≡ 0) → HowFarAt f verdict.index verdict.state verdict.number verdict.excess
-    over-there n =
+    over_there : ¬ (verdict.number ≡ 0) → HowFarAt f verdict.index verdict.state verdict.number verdict.excess
+    over_there n =
         let s = verdict.state in
         let t = table_in f in
         let there = place f verdict.index in
         let code = get_or f there 0 in
         let middle = get_or f (there + 1) 0 in
         let amount = bits16 f (there + 2) in
-        let stop = (read-files f z).refused n in
-        let same = read-there f z verdict.index stop.0 in
+        let stop = (read_files f z).refused n in
+        let same = read_there f z verdict.index stop.0 in
         let r = at (readings_of f) verdict.index in
         let far =
         subst (λ (q : Reading). HowFar t s code amount (guard t s q) (excess t s q (guard t s q))) (sym same)
-        (how-far t s code middle amount (reading code middle amount) (reads middle amount code))
+        (how_far t s code middle amount (reading code middle amount) (reads middle amount code))
         in
-        subst (HowFar t s code amount verdict.number) (sym (read-files f z).over)
+        subst (HowFar t s code amount verdict.number) (sym (read_files f z).over)
         (subst (λ (k : ℕ). HowFar t s code amount k (excess t s r k)) stop.1 far)
 
-    none-there : verdict.number < 9 → verdict.excess ≡ 0
-    none-there l =
-        (read-files f z).over
-        ∙ none-below-9 (table_in f) verdict.state _ (led verdict.state (at (readings_of f) verdict.index)).clock verdict.number l
+    none_there : verdict.number < 9 → verdict.excess ≡ 0
+    none_there l =
+        (read_files f z).over
+        ∙ none_below_9 (table_in f) verdict.state _ (led verdict.state (at (readings_of f) verdict.index)).clock verdict.number l
 
     is_read : JudgeAnswers f verdict
     is_read =
         record {
-          unread = λ h. ⊎_elim (λ e. absurd (omega arith)) (λ b. absurd (omega arith)) read-numbers;
-          read = λ _. (subst (FirstOf (file_refusals f)) z (file-answers f).first, read-files f z);
-          refused = λ l. refused-there (λ e. omega arith);
-          how-far = λ l. over-there (λ e. omega arith);
-          none_over = none-there;
-          numbers = ⊎_elim (λ e. omega arith) (λ b. b.1) read-numbers;
-          rule-for =
+          unread = λ h. ⊎_elim (λ e. absurd (omega arith)) (λ b. absurd (omega arith)) read_numbers;
+          read = λ _. (subst (FirstOf (file_refusals f)) z (file_answers f).first, read_files f z);
+          refused = λ l. refused_there (λ e. omega arith);
+          how_far = λ l. over_there (λ e. omega arith);
+          none_over = none_there;
+          numbers = ⊎_elim (λ e. omega arith) (λ b. b.1) read_numbers;
+          rule_for =
               ruled (table_behind f) verdict.number verdict.rule
-              (λ e. ⊎_elim (λ q. absurd (omega arith)) (λ b. absurd (omega arith)) read-numbers)
-              (λ _. read-rule);
+              (λ e. ⊎_elim (λ q. absurd (omega arith)) (λ b. absurd (omega arith)) read_numbers)
+              (λ _. read_rule);
         }
 
-  pub judge-answers : JudgeAnswers f (verdict_of f)
-  judge-answers =
+  pub judge_answers : JudgeAnswers f (verdict_of f)
+  judge_answers =
       case (eqb (refusal_of f).number 0)
       (λ t. is_read (eqb-true (refusal_of f).number 0 t))
       (λ t.
       let n = eqb-false (refusal_of f).number 0 t in
-      subst (JudgeAnswers f) (unread-file f n) (not-read n))
+      subst (JudgeAnswers f) (unread-file f n) (not_read n))
 
-pub judge : (κs : _) (a : _) (r : _) (at : _) → judge-reads.Post κs a r at → JudgeAnswers a.0.now r
-judge κs a r at p = subst (JudgeAnswers a.0.now) (sym p) (judge-answers a.0.now)
+pub judge : (κs : _) (a : _) (r : _) (at : _) → judge_reads.Post κs a r at → JudgeAnswers a.0.now r
+judge κs a r at p = subst (JudgeAnswers a.0.now) (sym p) (judge_answers a.0.now)
 
 pub line :
     (κs : _) (a : _) (r : _) (at : _) → line_reads_lem.Post κs a r at
     → LineAnswers (line_for a.0.now) a.1.0.now r.number r.length at.1.0.now
-line κs a r at p = rw (p.0, p.1) (line-answers (line_for a.0.now) a.1.0.now)
+line κs a r at p = rw (p.0, p.1) (line_answers (line_for a.0.now) a.1.0.now)

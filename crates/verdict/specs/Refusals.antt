@@ -35,7 +35,7 @@ pub record JudgeAnswers (f : List ℕ) (v : Verdict) : Type 0 where
       → FirstOf (file_refusals f) 0
       × Exact (table_in f) start (readings_of f) (record { count = v.index; number = v.number; excess = v.excess; state = v.state })
   pub refused : 5 ≤ v.number → FirstOf (refusals_at f v.index v.state) v.number
-  pub how-far : 5 ≤ v.number → HowFarAt f v.index v.state v.number v.excess
+  pub how_far : 5 ≤ v.number → HowFarAt f v.index v.state v.number v.excess
   pub none_over : v.number < 9 → v.excess ≡ 0
   pub numbers : v.number ≤ 13
-  pub rule-for : RuleFor (table_behind f) v.number v.rule
+  pub rule_for : RuleFor (table_behind f) v.number v.rule

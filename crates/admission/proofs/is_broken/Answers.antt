@@ -5,14 +5,14 @@ use mathlib.Core.Bool.{Bool, true, false, not}
 use Prim.Native.Nat.{ℕ}
 use Rattle.limits.specs.declared.Table.{Table}
 use Rattle.admission.specs.Broken.{is_broken, left_side, right_side, is_strict}
-use Rattle.admission.proofs.BrokenLaws.{breaks, by-sides}
+use Rattle.admission.proofs.BrokenLaws.{breaks, by_sides_lem}
 use Rattle.admission.proofs.is_broken.Goals as goal
 
 compared :
     (t : Table) (n left right : ℕ) (strict : Bool) → (n ≡ 1 → ⊥) → (n ≡ 16 → ⊥)
     → left ≡ left_side t n → right ≡ right_side t n → strict ≡ is_strict n
     → breaks strict left right ≡ is_broken t n
-compared t n left right strict a b l r s = rw (l, r, s) (sym (by-sides t n a b))
+compared t n left right strict a b l r s = rw (l, r, s) (sym (by_sides_lem t n a b))
 
 pub returns-then-rule-eq1 : goal.returns-then-rule-eq1
 returns-then-rule-eq1 c = ap not c.is_set.ensures ∙ ap (is_broken c.args.table) (sym c.if-rule-eq1.true)

@@ -5,7 +5,7 @@ use Prim.Native.Nat.{◌≤◌, ◌<◌}
 use borrow.Author.Tests.{le-leb, lt-leb}
 use Rattle.shift.specs.Steps.{limited}
 use Rattle.deadlines.specs.Deadlines.{stage_end_of}
-use Rattle.deadlines.proofs.DeadlineLaws.{past-stage, in-stage}
+use Rattle.deadlines.proofs.DeadlineLaws.{past-stage, in_stage}
 use Rattle.deadlines.proofs.late.Goals as goal
 
 pub returns-then-deadline-clock : goal.returns-then-deadline-clock
@@ -23,7 +23,7 @@ returns c =
     let within = subst (λ d. a.clock ≤ d) c.deadline.ensures c.if-deadline-clock.false in
     rw (
       le-leb a.clock 4294967295 c.if-clock-gt4294967295.false,
-      in-stage (stage_end_of a.device a.channel a.state) a.clock (limited a.state) within,
+      in_stage (stage_end_of a.device a.channel a.state) a.clock (limited a.state) within,
     )
 
 pub returns-then-clock-gt4294967295 : goal.returns-then-clock-gt4294967295

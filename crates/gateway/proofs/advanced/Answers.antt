@@ -7,7 +7,7 @@ use Rattle.shift.proofs.AnswerLaws.{breaks}
 use Rattle.stepfile.specs.Records.{record_of}
 use Rattle.verdict.specs.declared.Verdict.{Verdict}
 use Rattle.gateway.specs.Advancing.{advanced_on}
-use Rattle.gateway.proofs.Blocks.{admitted, a-block-of-one-record}
+use Rattle.gateway.proofs.Blocks.{admitted, a_block_of_one_record}
 use Rattle.gateway.proofs.advanced.Goals as goal
 
 pub returns-then-broken-ne0 : goal.returns-then-broken-ne0
@@ -22,7 +22,7 @@ pub returns : goal.returns
 returns c =
     let a = c.args in
     let rule = c.broken_rule-broken in
-    let record-bytes = a.code ∷ a.middle ∷ a.low ∷ a.high ∷ [] in
-    let block = c.judge_records-verdict.ensures ∙ admitted a.table a.state record-bytes (sym rule.ensures ∙ c.if-broken-ne0.false) in
+    let record_bytes_lem = a.code ∷ a.middle ∷ a.low ∷ a.high ∷ [] in
+    let block = c.judge_records-verdict.ensures ∙ admitted a.table a.state record_bytes_lem (sym rule.ensures ∙ c.if-broken-ne0.false) in
     ap (λ (v : Verdict). record { number = v.number; rule = v.rule; excess = v.excess; state = v.state }) block
-    ∙ a-block-of-one-record a.table a.state a.code a.middle a.low a.high
+    ∙ a_block_of_one_record a.table a.state a.code a.middle a.low a.high

@@ -2,7 +2,7 @@
 -- Assumes nothing.
 use mathlib.Core.Path.{sym, ap, ◌∙◌}
 use native.Mathlib.Omega.{arith}
-use Rattle.gateway.proofs.Blocks.{admitted, no_record, not-admitted}
+use Rattle.gateway.proofs.Blocks.{admitted, no_record, not_admitted}
 use Rattle.gateway.proofs.advanced_block.Goals as goal
 
 pub returns-then-records-lt4 : goal.returns-then-records-lt4
@@ -15,7 +15,7 @@ returns-then-rule-ne0 c =
     let a = c.args in
     let rule = c.broken_rule-rule in
     ap (λ k. record { number = 4; rule = k; index = 0; excess = 0; state = a.state }) rule.ensures
-    ∙ not-admitted a.table a.state a.records.now (λ z. c.if-rule-ne0.true (rule.ensures ∙ z)) (omega arith)
+    ∙ not_admitted a.table a.state a.records.now (λ z. c.if-rule-ne0.true (rule.ensures ∙ z)) (omega arith)
 
 pub returns : goal.returns
 returns c =

@@ -5,11 +5,11 @@ use mathlib.Core.List.{[], ◌∷◌}
 use Prim.Native.Nat.{◌+◌, ◌/◌, ◌%◌}
 use lib.Seq.{sets}
 use Rattle.numbers.specs.Bytes.{bytes_of, halves}
-use Rattle.numbers.proofs.StoreLaws.{sets-out, next16}
+use Rattle.numbers.proofs.StoreLaws.{sets_out, next16}
 use Rattle.numbers.proofs.put32.Goals as goal
 
 pub returns-then-out-at : goal.returns-then-out-at
-returns-then-out-at c = let a = c.args in sym (sets-out a.out.now a.at (bytes_of (halves a.n [])) c.if-out-at.true)
+returns-then-out-at c = let a = c.args in sym (sets_out a.out.now a.at (bytes_of (halves a.n [])) c.if-out-at.true)
 
 pub returns : goal.returns
 returns c =

@@ -2,7 +2,7 @@
 -- Assumes nothing.
 use Rattle.checks.proofs.Ranges.{past-arms}
 use Rattle.phases.specs.Phases.{ex_entries}
-use Rattle.phases.proofs.PhaseLaws.{no-limit}
+use Rattle.phases.proofs.PhaseLaws.{no_limit}
 use Rattle.phases.proofs.latest_take.Goals as goal
 
 pub returns-in-0 : goal.returns-in-0
@@ -15,4 +15,4 @@ pub returns-in-2 : goal.returns-in-2
 returns-in-2 c = rw c.in-2.is
 
 pub returns-in_default : goal.returns-in_default
-returns-in_default c = no-limit ex_entries c.args.table c.args.order (past-arms 3 c.args.order c.in_default.in_default-own.rest)
+returns-in_default c = no_limit ex_entries c.args.table c.args.order (past-arms 3 c.args.order c.in_default.in_default-own.rest)

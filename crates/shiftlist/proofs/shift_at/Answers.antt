@@ -1,13 +1,13 @@
 -- `shift_at` meets its contract: each field is read where it stands, and zeros behind the end.
 -- Assumes nothing.
 use Rattle.std.proofs.Common.{◌∙◌}
-use Rattle.shiftlist.proofs.FetchLaws.{none-there}
+use Rattle.shiftlist.proofs.FetchLaws.{none_there}
 use Rattle.shiftlist.proofs.shift_at.Goals as goal
 
 pub returns-then-list-at : goal.returns-then-list-at
 returns-then-list-at c =
     let a = c.args in
-    c.no_shift.ensures ∙ none-there a.list.now a.at c.if-list-at.true
+    c.no_shift.ensures ∙ none_there a.list.now a.at c.if-list-at.true
 
 pub returns : goal.returns
 returns c =

@@ -8,7 +8,7 @@ use lib.Dec.{eqb}
 use Rattle.verdict.specs.declared.Verdict.{Verdict}
 use Rattle.verdict.proofs.Verdicts.{outcome}
 use Rattle.shiftlist.specs.Lists.{refused_by}
-use Rattle.shiftlist_extend.proofs.ExtendLaws.{index-small, by-rule, at-ground, at-run, by_size}
+use Rattle.shiftlist_extend.proofs.ExtendLaws.{index_small, by_rule, at_ground, at-run, by_size}
 use Rattle.shiftlist_extend.proofs.extend.Goals as goal
 
 pub returns-then-number-ne0 : goal.returns-then-number-ne0
@@ -17,8 +17,8 @@ returns-then-number-ne0 c =
     let rule = c.broken_rule-rule in
     let most = c.most_for-most in
     let k = c.ground-number.result in
-    let e = by-rule a.list.now a.held a.state a.count a.table a.records.now rule.result most.result k rule.ensures most.ensures c.ground-number.ensures in
-    let n = at-ground a.list.now a.held a.state a.count a.table a.records.now k e c.if-number-ne0.true in record {
+    let e = by_rule a.list.now a.held a.state a.count a.table a.records.now rule.result most.result k rule.ensures most.ensures c.ground-number.ensures in
+    let n = at_ground a.list.now a.held a.state a.count a.table a.records.now k e c.if-number-ne0.true in record {
       value = c.refused.ensures
           ∙ ap (λ q. refused_by k q 0 0) (c.if_four.ensures ∙ ap (λ q. cond (eqb k 4) q 0) rule.ensures)
           ∙ n.0;
@@ -32,7 +32,7 @@ overflow_add-index c =
     let bytes = a.records.now in
     let z = ap (λ (x : Verdict). x.number) v.ensures in
     let i = ap (λ (x : Verdict). x.index) v.ensures in
-    let small = index-small a.table a.state bytes (λ q. c.if-number-ne0-2.true (z ∙ q)) in
+    let small = index_small a.table a.state bytes (λ q. c.if-number-ne0-2.true (z ∙ q)) in
     omega (arith, i, small, c.well_formed)
 
 pub returns-then-number-ne0-2 : goal.returns-then-number-ne0-2
@@ -41,7 +41,7 @@ returns-then-number-ne0-2 c =
     let a = c.args in
     let rule = c.broken_rule-rule in
     let most = c.most_for-most in
-    let e = by-rule a.list.now a.held a.state a.count a.table a.records.now rule.result most.result c.ground-number.result rule.ensures most.ensures c.ground-number.ensures in
+    let e = by_rule a.list.now a.held a.state a.count a.table a.records.now rule.result most.result c.ground-number.result rule.ensures most.ensures c.ground-number.ensures in
     let n =
     at-run a.list.now a.held a.state a.count a.table a.records.now (sym e ∙ c.if-number-ne0.false)
     (outcome v.result) (ap outcome v.ensures) c.if-number-ne0-2.true
@@ -56,7 +56,7 @@ returns-then-size-eq0 c =
     let a = c.args in
     let rule = c.broken_rule-rule in
     let most = c.most_for-most in
-    let e = by-rule a.list.now a.held a.state a.count a.table a.records.now rule.result most.result c.ground-number.result rule.ensures most.ensures c.ground-number.ensures in
+    let e = by_rule a.list.now a.held a.state a.count a.table a.records.now rule.result most.result c.ground-number.result rule.ensures most.ensures c.ground-number.ensures in
     let z = sym (ap (λ (x : Verdict). x.number) v.ensures) ∙ c.if-number-ne0-2.false in
     let clock : a.state.clock ≤ 4294967295 = omega (arith, c.well_formed) in
     let k =
@@ -74,7 +74,7 @@ returns c =
     let a = c.args in
     let rule = c.broken_rule-rule in
     let most = c.most_for-most in
-    let e = by-rule a.list.now a.held a.state a.count a.table a.records.now rule.result most.result c.ground-number.result rule.ensures most.ensures c.ground-number.ensures in
+    let e = by_rule a.list.now a.held a.state a.count a.table a.records.now rule.result most.result c.ground-number.result rule.ensures most.ensures c.ground-number.ensures in
     let z = sym (ap (λ (x : Verdict). x.number) v.ensures) ∙ c.if-number-ne0-2.false in
     let clock : a.state.clock ≤ 4294967295 = omega (arith, c.well_formed) in
     let k =

@@ -11,7 +11,7 @@ use Rattle.checks.proofs.Tests.{tests}
 use Rattle.numbers.specs.Bytes.{u32_at}
 use Rattle.shiftlist.specs.Lists.{shift_at}
 use Rattle.shiftlist_extend.specs.Extending.{grounds_by}
-use Rattle.shiftlist_extend.proofs.GroundLaws.{by-fit}
+use Rattle.shiftlist_extend.proofs.GroundLaws.{by_fit}
 use Rattle.shiftlist_extend.proofs.ground.Goals as goal
 
 pub returns-then-list-held : goal.returns-then-list-held
@@ -62,7 +62,7 @@ returns-then-not-does_fit c =
     let l = a.list.now in
     let shifts = c.u32_at-shifts in
     let last = c.shift_at-last in
-    by-fit (length l) a.held (u32_at l 4) (u32_at l 0) (shift_at l (a.held - 16)) a.state a.count a.more a.most a.rule (omega arith) (omega arith)
+    by_fit (length l) a.held (u32_at l 4) (u32_at l 0) (shift_at l (a.held - 16)) a.state a.count a.more a.most a.rule (omega arith) (omega arith)
     (omega (arith, c.u32_at.ensures)) (omega (arith, shifts.ensures, c.if-held-shifts.false))
     (omega (arith, c.if-most-count.false)) (omega (arith, shifts.ensures, c.if-count-shifts.false)) (omega arith) shifts.result last.result
     c.does_fit.result shifts.ensures (last.ensures ∙ ap (shift_at l) c.less.ensures) c.does_fit.ensures false
@@ -74,7 +74,7 @@ returns c =
     let l = a.list.now in
     let shifts = c.u32_at-shifts in
     let last = c.shift_at-last in
-    by-fit (length l) a.held (u32_at l 4) (u32_at l 0) (shift_at l (a.held - 16)) a.state a.count a.more a.most a.rule (omega arith) (omega arith)
+    by_fit (length l) a.held (u32_at l 4) (u32_at l 0) (shift_at l (a.held - 16)) a.state a.count a.more a.most a.rule (omega arith) (omega arith)
     (omega (arith, c.u32_at.ensures)) (omega (arith, shifts.ensures, c.if-held-shifts.false))
     (omega (arith, c.if-most-count.false)) (omega (arith, shifts.ensures, c.if-count-shifts.false)) (omega arith) shifts.result last.result
     c.does_fit.result shifts.ensures (last.ensures ∙ ap (shift_at l) c.less.ensures) c.does_fit.ensures true

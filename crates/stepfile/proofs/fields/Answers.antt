@@ -6,7 +6,7 @@ use lib.Dec.{eqb}
 use Rattle.checks.proofs.Tests.{tests}
 use Rattle.checks.proofs.Checks.{refused, holds→first}
 use Rattle.stepfile.specs.Files.{headed_by}
-use Rattle.stepfile.proofs.EntryLaws.{most-between}
+use Rattle.stepfile.proofs.EntryLaws.{most_between}
 use Rattle.stepfile.proofs.FileLaws.{none, one}
 use Rattle.stepfile.proofs.fields.Goals as goal
 
@@ -48,7 +48,7 @@ pub returns-then-offset-ne12 : goal.returns-then-offset-ne12
 returns-then-offset-ne12 c = let a = c.args in sym (refused (headed_by a.len a.offset a.entries a.from a.count) 1 (omega (arith, tests)))
 
 pub overflow_mul-count : goal.overflow_mul-count
-overflow_mul-count c = omega (arith, most-between c.args.entries)
+overflow_mul-count c = omega (arith, most_between c.args.entries)
 
 pub overflow_add-entries-3 : goal.overflow_add-entries-3
-overflow_add-entries-3 c = omega (arith, most-between c.args.entries)
+overflow_add-entries-3 c = omega (arith, most_between c.args.entries)

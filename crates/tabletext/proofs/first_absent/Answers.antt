@@ -3,20 +3,20 @@
 use mathlib.Core.Path.{refl, sym, ◌∙◌}
 use native.Mathlib.Numerals.{add-one}
 use native.Mathlib.Omega.{arith}
-use Rattle.tabletext.proofs.GivenLaws.{absent-here, given-here, all-given}
+use Rattle.tabletext.proofs.GivenLaws.{absent_here, given_here, all-given}
 use Rattle.tabletext.proofs.first_absent.Goals as goal
 
 pub returns-then-given-entry-eq-NOT_GIVEN : goal.returns-then-given-entry-eq-NOT_GIVEN
 returns-then-given-entry-eq-NOT_GIVEN c =
     let l = c.loop-entry in
     let a = c.args in
-    sym (l.invariant.1 ∙ absent-here a.given.now l.entry (omega arith) c.if-given-entry-eq-NOT_GIVEN.true)
+    sym (l.invariant.1 ∙ absent_here a.given.now l.entry (omega arith) c.if-given-entry-eq-NOT_GIVEN.true)
 
 pub loop-entry-preserved : goal.loop-entry-preserved
 loop-entry-preserved c =
     let l = c.loop-entry in
     let a = c.args in
-    (omega arith, l.invariant.1 ∙ given-here a.given.now l.entry (omega arith) c.if-given-entry-eq-NOT_GIVEN.false ∙ rw (add-one l.entry))
+    (omega arith, l.invariant.1 ∙ given_here a.given.now l.entry (omega arith) c.if-given-entry-eq-NOT_GIVEN.false ∙ rw (add-one l.entry))
 
 pub returns : goal.returns
 returns c =

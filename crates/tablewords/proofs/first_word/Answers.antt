@@ -2,7 +2,7 @@
 -- Assumes nothing.
 use native.Mathlib.Omega.{arith}
 use Rattle.tablewords.specs.declared.Class.TheVariants.{Blank}
-use Rattle.tablewords.proofs.WordLaws.{leading-fits, word_fits, word-is-there, behind-is-there}
+use Rattle.tablewords.proofs.WordLaws.{leading-fits, word_fits, word_is_there, behind_is_there}
 use Rattle.tablewords.proofs.first_word.Goals as goal
 
 pub overflow_add-result : goal.overflow_add-result
@@ -17,8 +17,8 @@ returns c =
     let from = c.run-from in
     let size = c.run-size in record {
       from_le_to = (omega arith, word_fits l from.result size.result from.ensures size.ensures);
-      line_value = word-is-there l from.result size.result from.ensures size.ensures;
-      line_value_2 = behind-is-there l from.result size.result from.ensures size.ensures;
+      line_value = word_is_there l from.result size.result from.ensures size.ensures;
+      line_value_2 = behind_is_there l from.result size.result from.ensures size.ensures;
     }
 
 pub slice_bounds-run-count : goal.slice_bounds-run-count

@@ -9,7 +9,7 @@ use borrow.Author.Tests.{eq-eqb}
 use Rattle.checks.proofs.Tests.{tests, passes, left}
 use lib.Dec.{leb}
 use Rattle.tablewords.specs.Words.{digit}
-use Rattle.tablewords.proofs.NumberLaws.{capped_fits, capped-already, begins, one-digit, no_digit, no_more}
+use Rattle.tablewords.proofs.NumberLaws.{capped_fits, capped_already, begins, one_digit, no_digit, no_more}
 use Rattle.tablewords.proofs.number_of.Goals as goal
 
 pub returns-then-word-eq0 : goal.returns-then-word-eq0
@@ -43,7 +43,7 @@ loop-i-preserved c =
       omega arith,
       rw w.ensures (capped_fits (l.value * 10 + (get_or a.word.now l.i 0 - 48))),
       l.invariant.2
-          ∙ one-digit a.word.now l.value l.i (omega arith) (sym d.ensures ∙ c.if-not-is_digit.false)
+          ∙ one_digit a.word.now l.value l.i (omega arith) (sym d.ensures ∙ c.if-not-is_digit.false)
           ∙ rw (w.ensures, add-one l.i),
     )
 
@@ -51,4 +51,4 @@ pub returns : goal.returns
 returns c =
     let l = c.loop-i in
     let a = c.args in
-    capped-already l.value l.invariant.1 ∙ sym (l.invariant.2 ∙ no_more a.word.now l.value l.i (omega arith))
+    capped_already l.value l.invariant.1 ∙ sym (l.invariant.2 ∙ no_more a.word.now l.value l.i (omega arith))

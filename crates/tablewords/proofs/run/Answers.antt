@@ -3,7 +3,7 @@
 use mathlib.Core.Path.{sym, ◌∙◌}
 use native.Mathlib.Numerals.{add-one}
 use native.Mathlib.Omega.{arith}
-use Rattle.tablewords.proofs.WordLaws.{one_more, another, at-the-end}
+use Rattle.tablewords.proofs.WordLaws.{one_more, another, at_the_end}
 use Rattle.tablewords.proofs.run.Goals as goal
 
 pub loop-at-init : goal.loop-at-init
@@ -35,5 +35,5 @@ pub returns : goal.returns
 returns c =
     let a = c.args in
     let l = c.loop-at in
-    let end = at-the-end a.class a.text.now l.at (omega arith) in
+    let end = at_the_end a.class a.text.now l.at (omega arith) in
     omega (arith, l.invariant.1, end)

@@ -13,9 +13,9 @@ use borrow.Author.Tests.{eq-eqb, ne_eqb}
 use Rattle.transfer.specs.Join.{agree}
 use Rattle.transfer.proofs.agrees.Goals as goal
 
-agree-nil : (xs : List ℕ) → agree xs [] ≡ true
-agree-nil [] = refl
-agree-nil (x ∷ xs) = refl
+agree_nil : (xs : List ℕ) → agree xs [] ≡ true
+agree_nil [] = refl
+agree_nil (x ∷ xs) = refl
 
 -- a turn of the loop: where the bytes agree, where they differ, past the part and past what is held
 module _ (buffer part : List ℕ) (held at i : ℕ) where
@@ -28,8 +28,8 @@ module _ (buffer part : List ℕ) (held at i : ℕ) where
       → agree (drop at (take held buffer)) (drop i part) ≡ false
   differs h k l e = rw (slice-cons at held buffer 0 h k, drop-cons part i 0 l, ne_eqb (get_or buffer at 0) (get_or part i 0) e)
 
-  past-part : length part ≤ i → agree (drop at (take held buffer)) (drop i part) ≡ true
-  past-part l = rw (drop_of_length-le part l) (agree-nil (drop at (take held buffer)))
+  past_part : length part ≤ i → agree (drop at (take held buffer)) (drop i part) ≡ true
+  past_part l = rw (drop_of_length-le part l) (agree_nil (drop at (take held buffer)))
 
   past-held : held ≤ at → agree (drop at (take held buffer)) (drop i part) ≡ true
   past-held h = rw (drop_of_length-le (take held buffer) {i = at} (simp length-take (omega arith)))
@@ -41,7 +41,7 @@ pub returns-then-part-i : goal.returns-then-part-i
 returns-then-part-i c =
     let l = c.loop-at in
     let a = c.args in
-    sym (l.invariant.2 ∙ past-part a.buffer.now a.part.now a.held l.at l.i c.if-part-i.true)
+    sym (l.invariant.2 ∙ past_part a.buffer.now a.part.now a.held l.at l.i c.if-part-i.true)
 
 pub bounds-buffer-at : goal.bounds-buffer-at
 bounds-buffer-at c = omega arith

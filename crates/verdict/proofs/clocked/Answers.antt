@@ -5,8 +5,8 @@ use Prim.Native.Nat.{ℕ}
 use Rattle.shift.specs.declared.State.{State}
 use Rattle.verdict.proofs.clocked.Goals as goal
 
-abbrev at-clock : State → ℕ → State
-at-clock s clock = record {
+abbrev at_clock : State → ℕ → State
+at_clock s clock = record {
   clock = clock;
   gear_box = s.gear_box;
   phase = s.phase;
@@ -18,4 +18,4 @@ at-clock s clock = record {
 }
 
 pub returns : goal.returns
-returns c n e = ap (at-clock c.args.state) e
+returns c n e = ap (at_clock c.args.state) e

@@ -13,12 +13,12 @@ use Rattle.shift.specs.declared.Answer.{Answer}
 use Rattle.shift.specs.declared.Reading.TheVariants.{Means}
 use Rattle.shift.specs.Steps.{allowed, ticked, effect}
 use Rattle.shift.specs.Answers.{listed}
-use Rattle.shift.proofs.ListedLaws.{led-to}
+use Rattle.shift.proofs.ListedLaws.{led_to}
 use Rattle.deadlines.specs.Deadlines.{phase_end_of, deadline, late_by, over_by}
 use Rattle.deadlines.proofs.DeadlineLaws.{fits, keeps}
 use Rattle.verdict.specs.Verdicts.{of_run}
 use Rattle.verdict.proofs.Judging.{all_left}
-use Rattle.verdict.proofs.Standing.{Stands, Kept, kept, stops, leads, no-step-stops, as_step, tick-leads, tick-stops, ends}
+use Rattle.verdict.proofs.Standing.{Stands, Kept, kept, stops, leads, no_step_stops, as_step, tick_leads, tick_stops, ends}
 use borrow.Enum.Refused.{opened}
 use Rattle.verdict.proofs.judge_listed.Goals as goal
 use Rattle.verdict.proofs.judge_listed.Goals.{then-enters, else-enters}
@@ -54,7 +54,7 @@ returns-in_default c =
     let read = c.record_at-reading in
     c.answered.ensures
     ∙ ap (λ k. of_run (record { count = l.index; number = k; excess = 0; state = l.state })) c.refusal.ensures
-    ∙ no-step-stops a.table a.records.now a.begin _ l.state l.index l.invariant.0 c.loop-index-test.true read.result read.ensures (opened c.in_default.in_default-own.keys2)
+    ∙ no_step_stops a.table a.records.now a.begin _ l.state l.index l.invariant.0 c.loop-index-test.true read.result read.ensures (opened c.in_default.in_default-own.keys2)
 
 pub returns-then-number-ne0 : goal.returns-then-number-ne0
 returns-then-number-ne0 c =
@@ -84,7 +84,7 @@ loop-index-preserved-in_default-x c =
     let here = answer.ensures ∙ as_step t a.records.now a.begin _ s l.index l.invariant.0 more x is_x in
     let to : next ≡ effect s x =
     ap (λ (q : Answer). q.state) answer.ensures
-    ∙ led-to (first (allowed t s x)) _ (effect s x) s (sym (ap (λ (q : Answer). q.number) answer.ensures) ∙ none)
+    ∙ led_to (first (allowed t s x)) _ (effect s x) s (sym (ap (λ (q : Answer). q.number) answer.ensures) ∙ none)
     in
     let enters = c.enters.ensures in
     let end : c.if-enters.phase_end ≡ phase_end_of t next =
@@ -97,7 +97,7 @@ loop-index-preserved-in_default-x c =
     elim c.if-enters.branch [
       | then-enters w ↦ w.device-is ∙ w.device_limit-device-then-enters.ensures ∙ ap (λ es. device_limit (table_of es) (order_of next.phase)) same
       | else-enters w ↦
-          w.device-is ∙ l.invariant.1.device-is
+          w.device-is ∙ l.invariant.1.device_is
           ∙ sym (ap (λ p. device_limit t (order_of p)) (ap (λ (q : State). q.phase) to ∙ (keeps t s x (sym enters ∙ w.if-enters.false)).0))
     ]
     in (
@@ -119,18 +119,18 @@ returns-then-deadline-clock c =
     in
     let later = c.later-clock in
     let late : deadline t s < s.clock + n =
-    subst (λ k. deadline t s < k) later.ensures (subst (λ d. d < later.result) l.invariant.1.last-is c.if-deadline-clock.true)
+    subst (λ k. deadline t s < k) later.ensures (subst (λ d. d < later.result) l.invariant.1.last_is c.if-deadline-clock.true)
     in
     let number =
     c.late-number.ensures
-    ∙ ap (λ d. late_by d t.channel_dl s later.result) l.invariant.1.device-is
+    ∙ ap (λ d. late_by d t.channel_dl s later.result) l.invariant.1.device_is
     ∙ ap (late_by (device_limit t (order_of s.phase)) t.channel_dl s) later.ensures
     in
     let k = c.late-number.result in
     let over : c.over-over.result ≡ over_by (phase_end_of t s) (device_limit t (order_of s.phase)) t.channel_dl s (s.clock + n) k =
     c.over-over.ensures
     ∙ ap (λ e. over_by e l.device t.channel_dl s later.result k) l.invariant.1.end_is
-    ∙ ap (λ d. over_by (phase_end_of t s) d t.channel_dl s later.result k) l.invariant.1.device-is
+    ∙ ap (λ d. over_by (phase_end_of t s) d t.channel_dl s later.result k) l.invariant.1.device_is
     ∙ ap (λ m. over_by (phase_end_of t s) (device_limit t (order_of s.phase)) t.channel_dl s m k) later.ensures
     in
     c.answered-then-deadline-clock.ensures
@@ -141,13 +141,13 @@ returns-then-deadline-clock c =
       excess = over_by (phase_end_of t s) (device_limit t (order_of s.phase)) t.channel_dl s (s.clock + n) m;
       state = s;
     })) number
-    ∙ tick-stops t a.records.now a.begin _ s l.index l.invariant.0 more n is-tick late
+    ∙ tick_stops t a.records.now a.begin _ s l.index l.invariant.0 more n is-tick late
 
 pub clocked-state-requires : goal.clocked-state-requires
 clocked-state-requires c =
     let l = c.loop-index in
     let most = fits c.args.table l.state in
-    let last = l.invariant.1.last-is in
+    let last = l.invariant.1.last_is in
     let until = c.if-deadline-clock.false in
     omega arith
 
@@ -165,12 +165,12 @@ loop-index-preserved c =
     in
     let later = c.later-clock in
     let until : s.clock + n ≤ deadline t s =
-    subst (λ d. s.clock + n ≤ d) k.last-is (subst (λ m. m ≤ l.deadline) later.ensures c.if-deadline-clock.false)
+    subst (λ d. s.clock + n ≤ d) k.last_is (subst (λ m. m ≤ l.deadline) later.ensures c.if-deadline-clock.false)
     in
     let to : c.clocked-state.result ≡ ticked n s = c.clocked-state.ensures n later.ensures in
-    let on = tick-leads t a.records.now a.begin _ s l.index l.invariant.0 more n is-tick until in
+    let on = tick_leads t a.records.now a.begin _ s l.index l.invariant.0 more n is-tick until in
     let unmoved : Kept t (ticked n s) l.phase_end l.device l.deadline =
-    record { end_is = k.end_is; device-is = k.device-is; last-is = k.last-is }
+    record { end_is = k.end_is; device_is = k.device_is; last_is = k.last_is }
     in (
       subst (λ (q : State). Stands t a.records.now a.begin (length a.records.now / 4) q (l.index + 1)) (sym to) on,
       subst (λ (q : State). Kept t q l.phase_end l.device l.deadline) (sym to) unmoved,

@@ -5,7 +5,7 @@ use Prim.Native.Nat.{◌<◌}
 use native.Mathlib.Omega.{arith}
 use borrow.Author.Tests.{eq-eqb, ne_eqb}
 use Rattle.shift.proofs.ListedLaws.{kept_out}
-use Rattle.shift.proofs.ExcessLaws.{refusal-below-9, unlisted-below-9}
+use Rattle.shift.proofs.ExcessLaws.{refusal_below_9, unlisted_below_9}
 use Rattle.stepfile.proofs.RecordLaws.{record_at}
 use Rattle.verdict.specs.Verdicts.{of_run}
 use Rattle.verdict.proofs.Judging.{all_left, at_once, ended}
@@ -24,7 +24,7 @@ returns-then-wrong-eq0 c t =
     let step = eq-eqb _ 0 (sym c.record_refusal-wrong.ensures ∙ c.if-wrong-eq0.true) in
     let number = pre.0 ∙ sym (kept_out t a.state r (λ z. pre.1 (pre.0 ∙ z)) ∙ rw step) in
     at_once t a.records.now a.state a.unlisted (omega arith) number pre.1
-    (subst (λ k. k < 9) (sym pre.0) (unlisted-below-9 a.state))
+    (subst (λ k. k < 9) (sym pre.0) (unlisted_below_9 a.state))
 
 pub returns-else-wrong-eq0 : goal.returns-else-wrong-eq0
 returns-else-wrong-eq0 c t =
@@ -35,4 +35,4 @@ returns-else-wrong-eq0 c t =
     let none = ne_eqb _ 0 (λ z. c.if-wrong-eq0.false (wrong.ensures ∙ z)) in
     let number = wrong.ensures ∙ sym (kept_out t a.state r (λ z. pre.1 (pre.0 ∙ z)) ∙ rw none) in
     at_once t a.records.now a.state wrong.result (omega arith) number c.if-wrong-eq0.false
-    (subst (λ k. k < 9) (sym wrong.ensures) (refusal-below-9 r))
+    (subst (λ k. k < 9) (sym wrong.ensures) (refusal_below_9 r))

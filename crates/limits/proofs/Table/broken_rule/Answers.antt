@@ -38,12 +38,12 @@ abbrev from-devices : Table → List Check
 from-devices t = devices t ++ from-asks t
 
 -- where every rule before it is kept, the answer is rule 16's
-to-the-last :
+to_the_last :
     {engine device ask route last : ℕ} (t : Table) → at_least1 (limits t) ≡ true
     → engine ≡ first (engines t) → engine ≡ 0 → device ≡ first (devices t) → device ≡ 0
     → ask ≡ first (asks t) → ask ≡ 0 → route ≡ first (routes t) → route ≡ 0
     → last ≡ first (lasts t) → last ≡ broken_rule t
-to-the-last t set e e0 d d0 a a0 r r0 l =
+to_the_last t set e e0 d d0 a a0 r r0 l =
     rw set
     (found_right (engines t) (from-devices t) tt e e0
     (found_right (devices t) (from-asks t) tt d d0 (found_right (asks t) (from-routes t) tt a a0 (found_right (routes t) (lasts t) tt r r0 l))))
@@ -87,7 +87,7 @@ returns-then-number-ne0-4 c =
 
 pub returns-then-is_undelayed : goal.returns-then-is_undelayed
 returns-then-is_undelayed c =
-    to-the-last
+    to_the_last
     c.args.self
     (sym c.is_set.ensures ∙ not-false c.is_set.result c.if-not-is_set.false-raw)
     c.broken_engine_rule-number.ensures
@@ -102,7 +102,7 @@ returns-then-is_undelayed c =
 
 pub returns : goal.returns
 returns c =
-    to-the-last
+    to_the_last
     c.args.self
     (sym c.is_set.ensures ∙ not-false c.is_set.result c.if-not-is_set.false-raw)
     c.broken_engine_rule-number.ensures

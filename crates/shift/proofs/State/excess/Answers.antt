@@ -1,7 +1,7 @@
 -- `State::excess` meets its contract: each arm by its number, and every other number carries 0.
 -- Assumes nothing.
 use Rattle.shift.specs.Excess.{early_bound}
-use Rattle.shift.proofs.ExcessLaws.{none-but}
+use Rattle.shift.proofs.ExcessLaws.{none_but}
 use Rattle.shift.proofs.State.excess.Goals as goal
 
 pub returns-in-9 : goal.returns-in-9
@@ -40,4 +40,4 @@ pub returns-in-13 : goal.returns-in-13
 returns-in-13 c = rw (c.in-13.is, c.beyond-in-13.ensures)
 
 pub returns-in_default : goal.returns-in_default
-returns-in_default c = let a = c.args in none-but a.table a.self (early_bound a.table a.self a.x) a.now a.number c.in_default.in_default-own.rest
+returns-in_default c = let a = c.args in none_but a.table a.self (early_bound a.table a.self a.x) a.now a.number c.in_default.in_default-own.rest

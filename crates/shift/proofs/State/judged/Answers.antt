@@ -6,15 +6,15 @@ use borrow.Author.Tests.{eq-eqb, ne_eqb}
 use Rattle.checks.specs.Checks.{first}
 use Rattle.checks.proofs.Checks.{first→holds}
 use Rattle.shift.specs.Answers.{refusal, listed}
-use Rattle.shift.proofs.ExcessLaws.{refusal-below-9, unlisted-below-9, refused-below-9}
-use Rattle.shift.proofs.ListedLaws.{judged-as-listed, kept_out}
+use Rattle.shift.proofs.ExcessLaws.{refusal_below_9, unlisted_below_9, refused_below_9}
+use Rattle.shift.proofs.ListedLaws.{judged_as_listed, kept_out}
 use Rattle.shift.proofs.State.judged.Goals as goal
 
 pub returns-then-unlisted-eq0 : goal.returns-then-unlisted-eq0
 returns-then-unlisted-eq0 c =
     let a = c.args in
     let met = first→holds 0 (listed a.self) tt (sym c.unlisted-unlisted.ensures ∙ c.if-unlisted-eq0.true) in
-    c.judged_listed.ensures ∙ judged-as-listed a.table a.self a.reading met.0
+    c.judged_listed.ensures ∙ judged_as_listed a.table a.self a.reading met.0
 
 pub returns-then-wrong-ne0 : goal.returns-then-wrong-ne0
 returns-then-wrong-ne0 c =
@@ -24,10 +24,10 @@ returns-then-wrong-ne0 c =
     let unmet : ¬ (first (listed a.self) ≡ 0) = λ z. c.if-unlisted-eq0.false (own.ensures ∙ z) in
     let no_step = ne_eqb (refusal a.reading) 0 (λ z. c.if-wrong-ne0.true (wrong.ensures ∙ z)) in
     c.refused.ensures
-    ∙ refused-below-9 a.table a.self a.reading wrong.result
+    ∙ refused_below_9 a.table a.self a.reading wrong.result
     (wrong.ensures ∙ sym (kept_out a.table a.self a.reading unmet ∙ rw no_step))
     c.if-wrong-ne0.true
-    (subst (λ k. k < 9) (sym wrong.ensures) (refusal-below-9 a.reading))
+    (subst (λ k. k < 9) (sym wrong.ensures) (refusal_below_9 a.reading))
 
 pub returns : goal.returns
 returns c =
@@ -37,7 +37,7 @@ returns c =
     let unmet : ¬ (first (listed a.self) ≡ 0) = λ z. c.if-unlisted-eq0.false (own.ensures ∙ z) in
     let a-step = eq-eqb (refusal a.reading) 0 (sym wrong.ensures ∙ c.if-wrong-ne0.false) in
     c.refused-2.ensures
-    ∙ refused-below-9 a.table a.self a.reading own.result
+    ∙ refused_below_9 a.table a.self a.reading own.result
     (own.ensures ∙ sym (kept_out a.table a.self a.reading unmet ∙ rw a-step))
     c.if-unlisted-eq0.false
-    (subst (λ k. k < 9) (sym own.ensures) (unlisted-below-9 a.self))
+    (subst (λ k. k < 9) (sym own.ensures) (unlisted_below_9 a.self))

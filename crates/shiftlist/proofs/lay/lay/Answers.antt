@@ -7,8 +7,8 @@ use Rattle.numbers.specs.Bytes.{bytes_of, halves}
 use Rattle.shiftlist.specs.Lists.{entries_of, header_of}
 use Rattle.shiftlist.specs.Walks.{coded_in, laid_by, size_with}
 use Rattle.shiftlist.proofs.StoreLaws.{apart}
-use Rattle.shiftlist.proofs.LayLaws.{at_most_one, laid-at-most, codes-long}
-use Rattle.shiftlist.proofs.LaidLaws.{too_many, no_place, in_place, no_room, all_laid, header-stored}
+use Rattle.shiftlist.proofs.LayLaws.{at_most_one, laid-at-most, codes_long}
+use Rattle.shiftlist.proofs.LaidLaws.{too_many, no_place, in_place, no_room, all_laid, header_stored}
 use Rattle.phases.specs.Phases.{unfinished}
 use Rattle.shiftlist.proofs.lay.lay.Goals as goal
 
@@ -69,7 +69,7 @@ overflow_cast-size c =
       in_place a.from c.if-from.false,
       laid-at-most a.walk a.index cs,
       at_most_one (unfinished a.walk.phase),
-      codes-long a.records.now,
+      codes_long a.records.now,
       c.if-index-records-gt16372.false,
     )
 
@@ -88,7 +88,7 @@ returns c =
       value = n ∙ e.0;
       list_after = c.put32-2.ensures
           ∙ ap (λ o. sets o 4 (bytes_of (halves 8 []))) c.put32.ensures
-          ∙ header-stored c.lay_entries-size.new.list ((size - 8) / 16)
+          ∙ header_stored c.lay_entries-size.new.list ((size - 8) / 16)
           ∙ ap (λ o. sets o 0 header) c.lay_entries-size.ensures.list_after
           ∙ sym (apart l 0 header a.from entries place.0)
           ∙ ap (λ m. sets (sets l 0 (bytes_of (header_of ((m - 8) / 16)))) a.from entries) n

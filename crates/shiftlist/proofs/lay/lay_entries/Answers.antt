@@ -8,7 +8,7 @@ use Rattle.shiftlist.specs.declared.walk.Walk.{Walk}
 use Rattle.shiftlist.specs.Lists.{numbers_of}
 use Rattle.shiftlist.specs.Walks.{coded_in, clock_by, holding, in_hand, closes, with, laid_by, last_before}
 use Rattle.shiftlist.proofs.StoreLaws.{one_at_most}
-use Rattle.shiftlist.proofs.LayLaws.{rest_of, code, amount, made, tick-made, still-made, takes-made, other-is, last_goes, stepped-holds, next_last, Left, one-laid, at-end}
+use Rattle.shiftlist.proofs.LayLaws.{rest_of, code, amount, made, tick_made, still_made, takes_made, other_is, last_goes, stepped-holds, next_last, Left, one_laid, at-end}
 use Rattle.shiftlist.proofs.lay.lay_entries.Goals as goal
 
 pub loop-i-init : goal.loop-i-init
@@ -35,7 +35,7 @@ loop-i-preserved-then-code-eq12 c =
     let inside : 4 * l.i + 3 < length records = omega (arith, l.invariant.1, test) in
     let w = holding l.clock l.phase l.first (last_before a.walk.last a.index l.i) l.kind l.route l.time in
     let left =
-    tick-made records l.i inside w n m (omega arith) c.if-code-eq12.true c.clock_after-clock.result
+    tick_made records l.i inside w n m (omega arith) c.if-code-eq12.true c.clock_after-clock.result
     (c.clock_after-clock.ensures ∙ ap (clock_by l.clock) c.amount_of-amount.ensures)
     ∙ ap (λ q. laid_by (holding c.clock_after-clock.result l.phase l.first q l.kind l.route l.time) m (rest_of records (l.i + 1)))
     (sym (next_last a.walk.last a.index l.i))
@@ -60,7 +60,7 @@ loop-i-preserved-then-is_still c =
     let inside : 4 * l.i + 3 < length records = omega (arith, l.invariant.1, test) in
     let w = holding l.clock l.phase l.first (last_before a.walk.last a.index l.i) l.kind l.route l.time in
     let left =
-    still-made records l.i inside w n m (omega arith) (sym c.is_still.ensures ∙ c.if-is_still.true)
+    still_made records l.i inside w n m (omega arith) (sym c.is_still.ensures ∙ c.if-is_still.true)
     ∙ ap (λ q. laid_by (holding l.clock l.phase l.first q l.kind l.route l.time) m (rest_of records (l.i + 1)))
     (sym (next_last a.walk.last a.index l.i))
     in
@@ -84,7 +84,7 @@ loop-i-preserved-then-takes_on c =
     let inside : 4 * l.i + 3 < length records = omega (arith, l.invariant.1, test) in
     let w = holding l.clock l.phase l.first (last_before a.walk.last a.index l.i) l.kind l.route l.time in
     let left =
-    takes-made records l.i inside w n m (omega arith) (sym c.takes_on.ensures ∙ c.if-takes_on.true) c.next_of-phase.result
+    takes_made records l.i inside w n m (omega arith) (sym c.takes_on.ensures ∙ c.if-takes_on.true) c.next_of-phase.result
     c.next_of-phase.ensures
     ∙ ap (λ q. laid_by (holding l.clock c.next_of-phase.result l.first q l.kind l.route l.time) m (rest_of records (l.i + 1)))
     (sym (next_last a.walk.last a.index l.i))
@@ -128,7 +128,7 @@ loop-i-preserved c =
     in
     let ended = closes l.phase u.phase in
     let left =
-    made records l.i inside w n m (omega arith) u many refl (stepped ∙ other-is w n there many c.if-code-eq12.false)
+    made records l.i inside w n m (omega arith) u many refl (stepped ∙ other_is w n there many c.if-code-eq12.false)
     ∙ ap (λ (q : Walk). with ended (in_hand u) (laid_by q m (rest_of records (l.i + 1)))) holds
     in
     let whole = laid_by a.walk a.index (coded_in records) in (
@@ -137,7 +137,7 @@ loop-i-preserved c =
       l.invariant.2,
       put.auto.list ∙ l.invariant.3,
       omega (arith, l.invariant.4, put.ensures.value, one_at_most ended (in_hand u)),
-      one-laid a.list.now a.from whole l.list l.p ended (in_hand u) (laid_by next m (rest_of records (l.i + 1))) put.new.list put.result
+      one_laid a.list.now a.from whole l.list l.p ended (in_hand u) (laid_by next m (rest_of records (l.i + 1))) put.new.list put.result
           put.ensures.value put.ensures.list_after (subst (Left a.list.now a.from whole l.list l.p) left l.invariant.5),
     )
 

@@ -8,17 +8,17 @@ use lib.Seq.{sets}
 use Rattle.limits.specs.Limits.{entries}
 use Rattle.numbers.specs.Bytes.{bytes_of}
 use Rattle.stepfile.specs.Writing.{records_of}
-use Rattle.stepfile.proofs.EntryLaws.{no-more-than-22}
+use Rattle.stepfile.proofs.EntryLaws.{no_more_than_22}
 use Rattle.stepfile.proofs.StoreLaws.{file-stored}
 use Rattle.stepfile.proofs.write.put_file.Goals as goal
 
 pub overflow_mul-entries : goal.overflow_mul-entries
 overflow_mul-entries c =
-    omega (arith, no-more-than-22 c.args.table)
+    omega (arith, no_more_than_22 c.args.table)
 
 pub overflow_add-entries : goal.overflow_add-entries
 overflow_add-entries c =
-    omega (arith, no-more-than-22 c.args.table)
+    omega (arith, no_more_than_22 c.args.table)
 
 pub put_records-requires : goal.put_records-requires
 put_records-requires c =
@@ -39,10 +39,10 @@ returns c =
     ∙ file-stored a.out.now a.table a.codes.now a.amounts.now k.result k.ensures
 
 pub overflow_cast-entries : goal.overflow_cast-entries
-overflow_cast-entries c = omega (arith, no-more-than-22 c.args.table)
+overflow_cast-entries c = omega (arith, no_more_than_22 c.args.table)
 
 pub put_header-requires : goal.put_header-requires
-put_header-requires c = omega (arith, no-more-than-22 c.args.table)
+put_header-requires c = omega (arith, no_more_than_22 c.args.table)
 
 pub put_table-requires : goal.put_table-requires
-put_table-requires c = omega (arith, no-more-than-22 c.args.table)
+put_table-requires c = omega (arith, no_more_than_22 c.args.table)

@@ -8,7 +8,7 @@ use lib.ListN.{get_or, drop}
 use lib.Seq.{sets}
 use Rattle.numbers.specs.Bytes.{bytes_of}
 use Rattle.stepfile.specs.Writing.{records_of}
-use Rattle.stepfile.proofs.StoreLaws.{record-stored, records-stored}
+use Rattle.stepfile.proofs.StoreLaws.{record_stored, records-stored}
 use Rattle.stepfile.proofs.write.put_records.Goals as goal
 
 pub loop-i-init : goal.loop-i-init
@@ -27,7 +27,7 @@ loop-i-preserved c =
       omega arith,
       omega (arith, first.auto.out, second.auto.out, l.invariant.2),
       l.invariant.3
-          ∙ record-stored l.out cs ns l.p l.i (omega arith) (omega arith)
+          ∙ record_stored l.out cs ns l.p l.i (omega arith) (omega arith)
           ∙ ap (λ o. sets (sets o (l.p + 2) (bytes_of (get_or ns l.i 0 ∷ []))) (l.p + 4) rest) (sym first.ensures)
           ∙ ap (λ o. sets o (l.p + 4) rest) (sym second.ensures),
     )

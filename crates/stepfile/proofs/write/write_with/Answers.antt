@@ -10,10 +10,10 @@ use Rattle.limits.specs.Rules.{broken_rule}
 use Rattle.stepfile.specs.declared.write.Wrong.{Wrong}
 use Rattle.stepfile.specs.Files.{most_records}
 use Rattle.stepfile.specs.Writing.{entries_for, file_of, size_of, writable, refused_with}
-use Rattle.stepfile.proofs.EntryLaws.{no-more-than-22, most-between}
+use Rattle.stepfile.proofs.EntryLaws.{no_more_than_22, most_between}
 use Rattle.stepfile.proofs.WritingLaws.{size}
 use Rattle.numbers.proofs.StoreLaws.{at-start}
-use Rattle.stepfile.proofs.WriteLaws.{at-lists, at-record, at_room, written, amounts-small}
+use Rattle.stepfile.proofs.WriteLaws.{at-lists, at_record, at_room, written, amounts_small}
 use Rattle.stepfile.proofs.write.write_with.Goals as goal
 
 pub returns-then-count-amounts : goal.returns-then-count-amounts
@@ -56,7 +56,7 @@ returns-then-number-ne0 c =
     let n = holds→first (writable a.table a.codes.now a.amounts.now)
     (omega (arith, tests), (omega (arith, tests), (eq→eqb (broken_rule a.table) 0 (sym r ∙ c.if-rule-ne0.false), tt))) in
     let wrong = c.first_wrong-wrong.ensures in
-    let k = at-record a.table a.codes.now a.amounts.now a.out.now n (λ z. c.if-number-ne0.true (ap (λ (q : Wrong). q.number) wrong ∙ z)) in record {
+    let k = at_record a.table a.codes.now a.amounts.now a.out.now n (λ z. c.if-number-ne0.true (ap (λ (q : Wrong). q.number) wrong ∙ z)) in record {
       value = c.refuse-then-number-ne0.ensures ∙ ap (λ (q : Wrong). refused_with q.number 0 q.index) wrong ∙ k.0;
       out_after = k.1;
     }
@@ -78,9 +78,9 @@ pub put_file-requires : goal.put_file-requires
 put_file-requires c =
     let a = c.args in
     let z = sym (ap (λ (q : Wrong). q.number) c.first_wrong-wrong.ensures) ∙ c.if-number-ne0.false in record {
-      codes_len = omega (arith, most-between c.entries_for-entries.result);
+      codes_len = omega (arith, most_between c.entries_for-entries.result);
       codes_in_bounds = omega arith;
-      by_index = amounts-small 0 a.codes.now a.amounts.now (omega arith) z;
+      by_index = amounts_small 0 a.codes.now a.amounts.now (omega arith) z;
     }
 
 pub returns : goal.returns
@@ -102,15 +102,15 @@ returns c =
 -- the size, of few entries and few records
 pub overflow_mul-size : goal.overflow_mul-size
 overflow_mul-size c =
-    omega (arith, no-more-than-22 c.args.table)
+    omega (arith, no_more_than_22 c.args.table)
 
 pub overflow_add-size : goal.overflow_add-size
 overflow_add-size c =
-    omega (arith, no-more-than-22 c.args.table)
+    omega (arith, no_more_than_22 c.args.table)
 
 pub overflow_mul-size-2 : goal.overflow_mul-size-2
-overflow_mul-size-2 c = omega (arith, most-between c.entries_for-entries.result)
+overflow_mul-size-2 c = omega (arith, most_between c.entries_for-entries.result)
 
 pub overflow_add-size-2 : goal.overflow_add-size-2
 overflow_add-size-2 c =
-    omega (arith, no-more-than-22 c.args.table, most-between c.entries_for-entries.result)
+    omega (arith, no_more_than_22 c.args.table, most_between c.entries_for-entries.result)

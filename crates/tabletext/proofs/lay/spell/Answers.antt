@@ -7,14 +7,14 @@ use lib.ListN.{length, take, get_or}
 use lib.Seq.{length-take-le, get_or-take}
 use Rattle.stepfile.specs.Writing.{entries_for}
 use Rattle.tabletext.specs.Printed.{lines_from, text_of}
-use Rattle.stepfile.proofs.EntryLaws.{entries-taken, no-more-than-22}
-use Rattle.tabletext.proofs.PrintLaws.{one_line, no-more-lines}
+use Rattle.stepfile.proofs.EntryLaws.{entries-taken, no_more_than_22}
+use Rattle.tabletext.proofs.PrintLaws.{one_line, no_more_lines}
 use Rattle.tabletext.proofs.lay.spell.Goals as goal
 
 pub loop-entry-init : goal.loop-entry-init
 loop-entry-init c =
     let t = c.args.table in
-    (omega arith, omega (arith, c.entries_for-count.ensures, no-more-than-22 t), omega arith, refl, refl)
+    (omega arith, omega (arith, c.entries_for-count.ensures, no_more_than_22 t), omega arith, refl, refl)
 
 pub loop-entry-preserved : goal.loop-entry-preserved
 loop-entry-preserved c =
@@ -45,7 +45,7 @@ returns c =
     let all : length vs ≡ count.result = length-take-le count.result es.result (rw es.ensures l.invariant.1) in
     let fits : l.at ≤ length l.space = omega (arith, l.invariant.1, l.invariant.2, l.invariant.3) in record {
       prefix_len = (fits, sym (length-take-le l.at l.space fits));
-      space_after = no-more-lines vs (lines_from 0 vs) (take l.at l.space) l.entry l.invariant.4 (omega (arith, all)) ∙ ap (lines_from 0) first;
+      space_after = no_more_lines vs (lines_from 0 vs) (take l.at l.space) l.entry l.invariant.4 (omega (arith, all)) ∙ ap (lines_from 0) first;
     }
 
 pub bounds-entries-entry : goal.bounds-entries-entry

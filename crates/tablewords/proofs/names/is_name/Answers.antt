@@ -2,11 +2,11 @@
 -- Assumes nothing.
 use mathlib.Core.Path.{ap, ◌∙◌}
 use Rattle.tablewords.specs.Names.{same}
-use Rattle.tablewords.proofs.NameLaws.{laid-part}
+use Rattle.tablewords.proofs.NameLaws.{laid_part}
 use Rattle.tablewords.proofs.names.is_name.Goals as goal
 
 pub returns : goal.returns
 returns c =
     let n = c.name-size in
     let a = c.args in
-    c.is_same.ensures ∙ ap (same a.word.now) (laid-part a.entry n.result _ _ (n.ensures.value, n.ensures.space_after))
+    c.is_same.ensures ∙ ap (same a.word.now) (laid_part a.entry n.result _ _ (n.ensures.value, n.ensures.space_after))

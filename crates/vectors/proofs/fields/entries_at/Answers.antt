@@ -5,7 +5,7 @@ use mathlib.Core.Path.{refl, sym, ◌∙◌}
 use native.Mathlib.Omega.{arith}
 use lib.ListN.{length-set}
 use Rattle.numbers.specs.Bytes.{u16_at}
-use Rattle.vectors.proofs.ReadLaws.{no-u16s}
+use Rattle.vectors.proofs.ReadLaws.{no_u16s}
 use Rattle.vectors.proofs.Storing.{stored, all-stored}
 use Rattle.vectors.proofs.fields.entries_at.Goals as goal
 
@@ -20,7 +20,7 @@ loop-i-preserved c =
     )
 
 pub returns-then-bytes-at : goal.returns-then-bytes-at
-returns-then-bytes-at c = let a = c.args in no-u16s a.bytes.now a.at 22 c.if-bytes-at.true
+returns-then-bytes-at c = let a = c.args in no_u16s a.bytes.now a.at 22 c.if-bytes-at.true
 
 pub returns : goal.returns
 returns c =
