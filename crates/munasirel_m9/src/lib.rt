@@ -1,5 +1,6 @@
 // What a host in C calls of the manual's engine: its variables at the start, one record on them, and what they say in our terms.
 #![tactic(auto)]
+
 ghost use Rattle.std.specs.Prelude.{◌≡◌, ◌+◌, ◌*◌};
 ghost use Rattle.manual.specs.Variables.{initialisation};
 ghost use Rattle.manual.specs.Answers.{moved_on};

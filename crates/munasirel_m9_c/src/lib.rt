@@ -1,5 +1,6 @@
 // The archive of the manual's engine that a host in C links: each function of `munasirel_m9`, exported under its name with its contract.
 #![tactic(auto)]
+
 ghost use Rattle.std.specs.Prelude.{◌≡◌, ◌+◌, ◌*◌};
 ghost use Rattle.manual.specs.Variables.{initialisation};
 ghost use Rattle.manual.specs.Answers.{moved_on};
