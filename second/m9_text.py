@@ -176,7 +176,7 @@ def manual_definitions():
     yield "the times in order", " ".join(times)
     for name in flags + times:
         yield f"number of {name}", str(place[name])
-        yield f"{'flag' if name in flags else 'timeOf'} {name}", name
+        yield f"{'flag' if name in flags else 'time_of'} {name}", name
     yield "the variables in order", " ".join(START)
     yield "initialisation", "variables 0 true (λ (f : Flag). false) (λ (τ : Time). 0)"
 
@@ -235,18 +235,18 @@ def either(text, sign, read):
 
 
 ANTT_GUARDS = (
-    (r"\(v \.(\w+) ! (\d+)\)", lambda flag, number: (f"{flag} = TRUE", number)),
-    (r"\(not \(v \.(\w+)\) ! (\d+)\)", lambda flag, number: (f"{flag} = FALSE", number)),
-    (r"\(\((v \.\w+(?: \|\| v \.\w+)+)\) ! (\d+)\)",
-     lambda flags, number: (either(flags, " || ", lambda flag: flag[len("v ."):]), number)),
-    (r"\(leb \(v \.time\) \(v \.(\w+) \+ t \.(\w+)\) ! (\d+)\)",
+    (r"\(v\.(\w+) ! (\d+)\)", lambda flag, number: (f"{flag} = TRUE", number)),
+    (r"\(not v\.(\w+) ! (\d+)\)", lambda flag, number: (f"{flag} = FALSE", number)),
+    (r"\(\((v\.\w+(?: \|\| v\.\w+)+)\) ! (\d+)\)",
+     lambda flags, number: (either(flags, " || ", lambda flag: flag[len("v."):]), number)),
+    (r"\(leb v\.time \(v\.(\w+) \+ t\.(\w+)\) ! (\d+)\)",
      lambda time, limit, number: (bounded("≤", time, entry_of(limit)), number)),
-    (r"\(leb \(v \.(\w+) \+ t \.(\w+)\) \(v \.time\) ! (\d+)\)",
+    (r"\(leb \(v\.(\w+) \+ t\.(\w+)\) v\.time ! (\d+)\)",
      lambda time, limit, number: (bounded("≥", time, entry_of(limit)), number)),
 )
 ANTT_OVERS = (
-    (r"\(v \.time - \(v \.(\w+) \+ t \.(\w+)\)\)", lambda time, limit: ("≤", time, entry_of(limit))),
-    (r"\(\(v \.(\w+) \+ t \.(\w+)\) - v \.time\)", lambda time, limit: ("≥", time, entry_of(limit))),
+    (r"\(v\.time - \(v\.(\w+) \+ t\.(\w+)\)\)", lambda time, limit: ("≤", time, entry_of(limit))),
+    (r"\(\(v\.(\w+) \+ t\.(\w+)\) - v\.time\)", lambda time, limit: ("≥", time, entry_of(limit))),
 )
 ANTT_ACTIONS = (
     (r"raise Flag\.(\w+)", lambda flag: f"{flag} := TRUE"),
@@ -319,10 +319,10 @@ def conjunction(text, negated, flag):
 
 def antt_deadline(piece, comment, number):
     """A guard of Tick_Tock's definition."""
-    found = re.fullmatch(r"(?:∷ )?past \((.*)\) now \(v \.(\w+)\) \(t \.(\w+)\)", piece)
+    found = re.fullmatch(r"(?:∷ )?past \((.*)\) now v\.(\w+) t\.(\w+)", piece)
     if not found:
         raise Unread(f"can't be read: {piece}")
-    up, down = conjunction(found.group(1), r"not \(v \.(\w+)\)", r"v \.")
+    up, down = conjunction(found.group(1), r"not v\.(\w+)", r"v\.")
     return guarded(deadline(up, down, found.group(2), entry_of(found.group(3))), number, mark_in(comment))
 
 
@@ -338,7 +338,7 @@ def antt_ticks(text):
             for piece, comment in commented(bodies[group][1], "--"):
                 found.append((label_in(comment), antt_deadline(piece, comment, numbers.get(limits, "no number"))))
     event = plain(bodies["Tick_Tock"][1])
-    number, excess = ("first (tick_guards t v (v .time + tick))", "tick_excess t v (v .time + tick)")
+    number, excess = ("first (tick_guards t v (v.time + tick))", "tick_excess t v (v.time + tick)")
     acts = event == f"record {{ enabled = true; number = {number}; excess = {excess}; after = pass tick v; -- act1 }}"
     found.append(("act1", "time := time + tick" if acts else event))
     yield from clauses("Tick_Tock", found)
@@ -355,9 +355,9 @@ def antt_ticks(text):
 def antt_reset(text):
     """The facts of RESET's definition: its guard, and that it lowers every flag."""
     bodies = {name: plain(body) for name, _, body in definitions_in(text)}
-    flags = either(bodies["erred"], " || ", lambda flag: flag[len("v ."):])
+    flags = either(bodies["erred"], " || ", lambda flag: flag[len("v."):])
     number, = re.fullmatch(r"event \(\(erred v ! (\d+)\) ∷ \[\]\) \(lower_all ∷ \[\]\) v", bodies["RESET"]).groups()
-    lowers = bodies["lower_all"] == "variables (v .time) (v .isNeu) (λ (f : Flag). false) (time_of v)"
+    lowers = bodies["lower_all"] == "variables v.time v.isNeu (λ (f : Flag). false) (time_of v)"
     lowered = [name for name in BOOLS if name != "isNeu" and lowers]
     return clauses("RESET", [("grd1", guarded(flags, number, "")), *lowering(lowered)])
 
@@ -403,9 +403,9 @@ def definition_facts(texts):
         declared = re.search(rf"pub data {kind} : Type 0 where\n(.*?)\n\n", texts[NAMES], re.DOTALL).group(1)
         names = re.findall(rf"^  (\w+) : {kind}$", plain_lines(declared), re.MULTILINE)
         yield f"the {kind.lower()}s in order", " ".join(names)
-    for name, number in re.findall(r"^(?:flag|time)Number (\w+) = (\d+)$", plain_lines(texts[NAMES]), re.MULTILINE):
+    for name, number in re.findall(r"^(?:flag|time)_number (\w+) = (\d+)$", plain_lines(texts[NAMES]), re.MULTILINE):
         yield f"number of {name}", number
-    read = r"^(flag|time_of) v (\w+) = v \.(\w+)$"
+    read = r"^(flag|time_of) v (\w+) = v\.(\w+)$"
     for kind, name, value in re.findall(read, plain_lines(texts[VARIABLES]), re.MULTILINE):
         yield f"{kind} {name}", value
     record = re.search(r"^variables [^\n]*= record \{\n(.*?)^\}", texts[VARIABLES], re.DOTALL | re.MULTILINE).group(1)

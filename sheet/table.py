@@ -71,7 +71,7 @@ def found(pattern, text, what):
 
 
 def words(name):
-    """A name of the definitions or the code in words: zero_torque and ZERO_TORQUE are zero torque."""
+    """A name of the definitions or the code in words: zero_torque, zeroTorque and ZERO_TORQUE are zero torque."""
     return re.sub(r"(?<=[a-z])(?=[A-Z])|_", " ", name.strip("«»")).lower()
 
 
@@ -82,7 +82,7 @@ def numbers(text):
 
 def listed(text, part):
     """The names of the limits or of the delays in the definitions, in their order."""
-    return re.findall(r"«(\w+)»", found(rf"^{part} t =\n(.*?)\[\]$", text, f"the list of {part}").group(1))
+    return re.findall(r"t\.(\w+)", found(rf"^{part} t =\n(.*?)\[\]$", text, f"the list of {part}").group(1))
 
 
 def fields(text):
@@ -135,7 +135,7 @@ def kinds(text, limits, all_entries):
 
     def total(formula):
         """The value of a sum, or of the larger of two."""
-        parts = [value(part.strip("«»")) for part in re.findall(r"«\w+»|\w+(?= t)", formula)]
+        parts = [value(part.removeprefix("t.")) for part in re.findall(r"t\.\w+|\w+(?= t\b)", formula)]
         return max(parts) if formula.startswith("max") else sum(parts)
 
     sums = dict(re.findall(r"^sum_of t (\w+) = (.*)$", text, re.M))
@@ -148,7 +148,7 @@ def limits_by_order(text, all_entries):
     by_number = list(all_entries.values())
     columns = {}
     for column in ("device", "phase", "ex", "de", "plain", "error"):
-        by_order = dict(enumerate(numbers(found(rf"^{column}Entries = (.*?)$", text, f"{column}Entries").group(1))))
+        by_order = dict(enumerate(numbers(found(rf"^{column}_entries = (.*?)$", text, f"{column}_entries").group(1))))
         columns[column] = {order: by_number[by_order[number]] for number, order in orders(text).items()
                            if by_order.get(number, len(by_number)) < len(by_number)}
     return columns
