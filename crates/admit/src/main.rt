@@ -5,7 +5,9 @@
 use columns::Page;
 use desk::Given;
 use limits::Table;
+use output::Sent;
 use std::io::{Stderr, Stdout};
+use std::process::ExitCode;
 
 mod rules;
 
@@ -18,22 +20,25 @@ const SUM: u8 = 7;
 
 const LEFT: u8 = 20;
 
-fn main(rt: HostRuntime) {
+fn main(rt: HostRuntime) -> ExitCode {
     let given = desk::read(&mut rt.stdin(), rt.stdout());
     match given {
-        Given::One(table) => tell(rt.stderr(), report(rt.stdout(), table)),
-        Given::Nothing => {}
+        Given::One(table) => tell(rt.stderr(), report(rt.stdout(), table)).status(),
+        Given::Nothing => ExitCode::SUCCESS,
+        Given::Unread => Sent::Unread.status(),
     }
 }
 
-fn tell(err: Stderr, written: bool) {
-    if !written {
-        let _ = err.write_all(b"admit: the report could not be written\n");
+// Where nobody reads on there is nobody to tell. It answers how the last writing ended.
+fn tell(err: Stderr, sent: Sent) -> Sent {
+    match sent {
+        Sent::Part => Sent::of(err.write_all(b"admit: the report could not be written\n")),
+        _ => sent,
     }
 }
 
-// Prints the report of a table, and answers whether it could be written.
-fn report(out: Stdout, table: Table) -> bool {
+// Prints the report of a table, and answers how writing it ended.
+fn report(out: Stdout, table: Table) -> Sent {
     let mut text = [0u8; 4096];
     let page = admitted(&mut text, Page::blank(out), table);
     let page = routes(&mut text, page, table);

@@ -5,7 +5,9 @@
 use columns::Page;
 use desk::Given;
 use limits::{Table, entry_at};
+use output::Sent;
 use std::io::{Stderr, Stdout};
+use std::process::ExitCode;
 use std::rt::Files;
 
 // The name under which a program finds its own descriptor 3, from which it reads the older table.
@@ -14,54 +16,56 @@ const OLD: &str = "/proc/self/fd/3";
 // The width of the columns of limits.
 const LIMIT: u8 = 5;
 
-fn main(rt: HostRuntime) {
+fn main(rt: HostRuntime) -> ExitCode {
     let new = desk::read(&mut rt.stdin(), rt.stdout());
     match new {
-        Given::One(table) => from_old(&rt, rt.stdout(), rt.stderr(), table),
-        Given::Nothing => {}
+        Given::One(table) => from_old(&rt, rt.stdout(), rt.stderr(), table).status(),
+        Given::Nothing => ExitCode::SUCCESS,
+        Given::Unread => Sent::Unread.status(),
     }
 }
 
-fn from_old<R: Files>(files: &R, out: Stdout, err: Stderr, new: Table) {
+// How the last writing ended.
+fn from_old<R: Files>(files: &R, out: Stdout, err: Stderr, new: Table) -> Sent {
     let old = desk::read_file(files, OLD, out);
     match old {
         Given::One(table) => compare(out, err, table, new),
-        Given::Nothing => {}
+        Given::Nothing => Sent::Whole,
+        Given::Unread => Sent::Unread,
     }
 }
 
-fn compare(out: Stdout, err: Stderr, old: Table, new: Table) {
+fn compare(out: Stdout, err: Stderr, old: Table, new: Table) -> Sent {
     if old.broken_rule() != 0 {
-        say(out, err, b"the old table is not admitted\n");
-        return;
+        return say(out, err, b"the old table is not admitted\n");
     }
     if new.broken_rule() != 0 {
-        say(out, err, b"the new table is not admitted\n");
-        return;
+        return say(out, err, b"the new table is not admitted\n");
     }
     if admission::first_tighter(old, new) == 22 {
-        say(
+        return say(
             out,
             err,
             b"nowhere tighter: every list of steps accepted under the old table is accepted under the new one, with the same end\n",
         );
-        return;
     }
-    tell(err, tighter(out, old, new));
+    tell(err, tighter(out, old, new))
 }
 
-fn say(out: Stdout, err: Stderr, words: &[u8]) {
-    tell(err, out.write_all(words).is_ok());
+fn say(out: Stdout, err: Stderr, words: &[u8]) -> Sent {
+    tell(err, Sent::of(out.write_all(words)))
 }
 
-fn tell(err: Stderr, written: bool) {
-    if !written {
-        let _ = err.write_all(b"admit_from: the comparison could not be written\n");
+// Where nobody reads on there is nobody to tell.
+fn tell(err: Stderr, sent: Sent) -> Sent {
+    match sent {
+        Sent::Part => Sent::of(err.write_all(b"admit_from: the comparison could not be written\n")),
+        _ => sent,
     }
 }
 
-// Prints the table of the entries that are tighter, and answers whether it could be written.
-fn tighter(out: Stdout, old: Table, new: Table) -> bool {
+// Prints the table of the entries that are tighter, and answers how writing it ended.
+fn tighter(out: Stdout, old: Table, new: Table) -> Sent {
     let mut text = [0u8; 4096];
     let mut page = head(&mut text, Page::blank(out));
     let mut entry: usize = 0;

@@ -4,16 +4,17 @@
 
 ghost use Rattle.std.specs.Prelude.{◌≡◌, ◌-◌, ◌≤◌, ◌<◌, length};
 
+use output::Sent;
 use std::io::Stdout;
 
 // A page as far as it is laid: where it is written, the bytes of the text that are in use, the spaces that a further cell of the row
-// has before it, and whether a part could not be written.
+// has before it, and how writing went so far.
 #[derive(Clone, Copy)]
 pub struct Page {
     out: Stdout,
     used: usize,
     owed: usize,
-    failed: bool,
+    sent: Sent,
 }
 
 impl Page {
@@ -23,7 +24,7 @@ impl Page {
             out,
             used: 0,
             owed: 0,
-            failed: false,
+            sent: Sent::Whole,
         }
     }
 
@@ -75,10 +76,10 @@ impl Page {
         self.byte(text, b'\n').owing(0)
     }
 
-    // Writes what is left, and answers whether the whole page was written.
-    pub fn close(self, text: &mut [u8; 4096]) -> bool {
+    // Writes what is left, and answers how writing the whole page ended.
+    pub fn close(self, text: &mut [u8; 4096]) -> Sent {
         let page = self.room(text);
-        !page.failed && write(page.out, text, page.used)
+        page.written(text, page.used)
     }
 
     fn owing(self, owed: usize) -> Page {
@@ -86,7 +87,7 @@ impl Page {
             out: self.out,
             used: self.used,
             owed,
-            failed: self.failed,
+            sent: self.sent,
         }
     }
 
@@ -127,7 +128,7 @@ impl Page {
             out: page.out,
             used: used + 1,
             owed: page.owed,
-            failed: page.failed,
+            sent: page.sent,
         }
     }
 
@@ -138,21 +139,31 @@ impl Page {
         if self.used < 4096 {
             return self;
         }
-        let failed = self.failed || !write(self.out, text, 4096);
+        let sent = self.written(text, 4096);
         Page {
             out: self.out,
             used: 0,
             owed: self.owed,
-            failed,
+            sent,
+        }
+    }
+
+    // Writes the first bytes of a text, if all before it was written, and answers how writing went.
+    fn written(self, text: &[u8], count: usize) -> Sent
+        requires { count ≤ length text.now }
+    {
+        match self.sent {
+            Sent::Whole => write(self.out, text, count),
+            _ => self.sent,
         }
     }
 }
 
-// Writes the first bytes of a text, and answers whether it could.
-fn write(out: Stdout, text: &[u8], count: usize) -> bool
+// Writes the first bytes of a text, and answers how that ended.
+fn write(out: Stdout, text: &[u8], count: usize) -> Sent
     requires { count ≤ length text.now }
 {
-    out.write_all(&text[..count]).is_ok()
+    Sent::of(out.write_all(&text[..count]))
 }
 
 // How many spaces fill a column of this width beside so many bytes.

@@ -4,16 +4,18 @@
 
 use columns::Page;
 use limits::Table;
+use output::Sent;
 use std::fs;
 use std::io::{Read, Stdout};
 use std::rt::Files;
 use tabletext::{Fault, Text};
 
-// The table that was given, or none.
+// The table that was given, or none; or none and nobody who reads why.
 #[derive(Clone, Copy)]
 pub enum Given {
     One(Table),
     Nothing,
+    Unread,
 }
 
 // What a reader gives; where it is no table, that is said.
@@ -49,8 +51,10 @@ fn nothing(out: Stdout, words: &[u8]) -> Given {
 }
 
 fn said(text: &mut [u8; 4096], page: Page) -> Given {
-    page.end(text).close(text);
-    Given::Nothing
+    match page.end(text).close(text) {
+        Sent::Unread => Given::Unread,
+        _ => Given::Nothing,
+    }
 }
 
 // What bytes give: those of a step file begin with 12 and 0, which no text that says a table does.

@@ -2,8 +2,10 @@
 #![tactic(auto)]
 
 use columns::Page;
+use output::Sent;
 use shiftlist::Shift;
 use std::io::{Stderr, Stdout};
+use std::process::ExitCode;
 
 // The widths of the columns, in which every entry fits.
 const NUMBER: u8 = 5;
@@ -22,27 +24,26 @@ const FIRST: u8 = 12;
 
 const LAST: u8 = 11;
 
-fn main(rt: HostRuntime) {
+fn main(rt: HostRuntime) -> ExitCode {
     // One byte longer than the longest list.
     let mut list = [0u8; 261961];
     let input = input::read_all(&mut rt.stdin(), &mut list);
     if input.failed {
-        say(rt.stderr(), b"standard input could not be read");
-        return;
+        return say(rt.stderr(), b"standard input could not be read").status();
     }
     let length = input.length;
-    show(rt.stdout(), rt.stderr(), &list[..length]);
+    show(rt.stdout(), rt.stderr(), &list[..length]).status()
 }
 
-// A sentence on standard error.
-fn say(err: Stderr, words: &[u8]) {
+// A sentence on standard error, and how writing it ended.
+fn say(err: Stderr, words: &[u8]) -> Sent {
     let _ = err.write_all(b"shifts: ");
     let _ = err.write_all(words);
-    let _ = err.write_all(b"\n");
+    Sent::of(err.write_all(b"\n"))
 }
 
-// The table, or why there is none; 14 is a list without a first shift.
-fn show(out: Stdout, err: Stderr, list: &[u8]) {
+// The table, or why there is none; 14 is a list without a first shift. It answers how the last writing ended.
+fn show(out: Stdout, err: Stderr, list: &[u8]) -> Sent {
     let fetched = shiftlist::fetch(list, 0);
     let number = fetched.number;
     match number {
@@ -59,18 +60,20 @@ fn show(out: Stdout, err: Stderr, list: &[u8]) {
             err,
             b"the list is refused with 3: its length is not 8 bytes and 16 for each shift that it counts",
         ),
-        _ => tell(err, out.write_all(b"no shifts\n").is_ok()),
+        _ => tell(err, Sent::of(out.write_all(b"no shifts\n"))),
     }
 }
 
-fn tell(err: Stderr, written: bool) {
-    if !written {
-        say(err, b"the table could not be written");
+// Where nobody reads on there is nobody to tell.
+fn tell(err: Stderr, sent: Sent) -> Sent {
+    match sent {
+        Sent::Part => say(err, b"the table could not be written"),
+        _ => sent,
     }
 }
 
-// Prints the table of a list, shift by shift, and answers whether it could be written.
-fn table(out: Stdout, list: &[u8]) -> bool {
+// Prints the table of a list, shift by shift, and answers how writing it ended.
+fn table(out: Stdout, list: &[u8]) -> Sent {
     let mut text = [0u8; 4096];
     let mut page = head(&mut text, Page::blank(out));
     let mut number: usize = 0;
