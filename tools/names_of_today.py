@@ -4,8 +4,9 @@
 Run at the top, after the kit's own script of the port; it changes the crates, the must-fail edits and the pages and tools that name
 definitions. First the words in lower camel case: functions, fields, constants and exported names keep their spelling, since none of
 them is in lower camel case but `isNeu`, a variable of the manual; the manual's events keep the manual's names. Then the lemmas, record
-fields and names of imports whose words a dash joins: a dash stays only between the names of two definitions, and a lemma that would
-get the name of a definition gets `_lem`. What is in today's spelling already stays, so that it can be run again.
+fields and names of imports whose words a dash joins: a dash stays only beside a name in snake case, and between a function of the
+library on lists and a definition, and a lemma that would get the name of a definition gets `_lem`. What is in today's spelling already
+stays, so that it can be run again.
 """
 import glob
 import re
@@ -74,11 +75,13 @@ def rewrite(path, change):
 TOKEN = re.compile(r"[^\s(){}\[\],;.:=`\"«»|]+")
 DECLARED = re.compile(r"^ *(?P<kind>(?:(?:abbrev|unfoldable|pub|data|record) +)*)(?P<name>[^\s:(){}=,;.]+)(?: *(?:[({].*)?:(?!=)| *$)")
 WORDS = {'use', 'let', 'λ', 'in', 'open', 'module', 'mod', 'unfolding', 'elim', '--'}
-# Functions of the library, between which and others a dash stays.
-LIBRARY = {'length', 'take', 'drop', 'append', 'map', 'set', 'sets', 'replicate', 'paste', 'cond', 'max', 'min', 'first', 'reverse'}
+# Functions of the library on lists, between which and a definition a dash stays.
+LIBRARY = {'length', 'take', 'drop', 'append', 'sets', 'replicate', 'paste'}
 # Fields of records of statements, which share a name with a parameter or another record's field and do not meet it.
-FIELDS = {'phase-time', 'stage-time', 'request-time', 'plain-open', 'error-open'}
-DASHED = re.compile(r"^(?=.*[a-z])[A-Za-z0-9'_]+(?:-[A-Za-z0-9'_]+)+$")
+FIELDS = {
+    'phase-time', 'stage-time', 'request-time', 'failed-phase', 'plain-open', 'error-open', 'plain-close', 'error-close',
+}
+DASHED = re.compile(r"^(?=.*[a-z])[A-Za-z0-9'_→]+(?:-[A-Za-z0-9'_→]+)+$")
 
 
 def proof_files():
@@ -103,14 +106,16 @@ def own_names(texts):
                     dashed.add(found['name'])
                 elif re.search('abbrev|unfoldable|data|record', found['kind']):
                     definitions.add(found['name'])
-            dashed |= {name for name in re.findall(r"^use .* as ([^\s;]+)$", line) if DASHED.match(name)}
+            if line.startswith('use '):
+                dashed |= {name for name in re.findall(r" as ([^\s;,}]+)", line) if DASHED.match(name)}
     return dashed, definitions
 
 
 def plain_names(texts):
     """The dashed names with those of today."""
     dashed, definitions = own_names(texts)
-    joined = {n for n in dashed if '_' in n or all(part in definitions | LIBRARY for part in n.split('-'))}
+    known = definitions | LIBRARY
+    joined = {n for n in dashed if '_' in n or (set(n.split('-')) & LIBRARY and set(n.split('-')) <= known)}
     names = {n: n.replace('-', '_') for n in dashed - joined}
     for text in texts.values():
         tokens = set(TOKEN.findall(re.sub(r"(?m)^ *--.*$|\.[\w']+|^use .*\.proofs\..* as .*$", ' ', text)))

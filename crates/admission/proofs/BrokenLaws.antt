@@ -91,9 +91,9 @@ pass_on : (bs : List Bool) → AllPass bs → AllPass (true ∷ bs)
 pass_on bs h zero = tt
 pass_on bs h (suc n) = h n
 
-pass-before : (bs : List Bool) (p : ℕ) → ((n : ℕ) → n < p → T (get_or bs n true)) → (n : ℕ) → n < suc p → T (get_or (true ∷ bs) n true)
-pass-before bs p h zero l = tt
-pass-before bs p h (suc n) l = h n (le_of_suc-le-suc l)
+pass_before : (bs : List Bool) (p : ℕ) → ((n : ℕ) → n < p → T (get_or bs n true)) → (n : ℕ) → n < suc p → T (get_or (true ∷ bs) n true)
+pass_before bs p h zero l = tt
+pass_before bs p h (suc n) l = h n (le_of_suc-le-suc l)
 
 moved : (k p : ℕ) → suc k + p ≡ k + suc p
 moved k p = omega arith
@@ -105,7 +105,7 @@ first_or_none k (true ∷ bs) =
     (λ a. inl (a.0, pass_on bs a.1))
     (λ s.
     let e = s.number in
-    inr (record { place = suc s.place; number = e ∙ moved k s.place; fails = s.fails; before = pass-before bs s.place s.before }))
+    inr (record { place = suc s.place; number = e ∙ moved k s.place; fails = s.fails; before = pass_before bs s.place s.before }))
     (first_or_none (suc k) bs)
 first_or_none k (false ∷ bs) =
     inr (record { place = 0; number = omega arith; fails = tt; before = λ n h. absurd (not-suc-le-zero h) })

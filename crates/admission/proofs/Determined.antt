@@ -25,8 +25,8 @@ is_strict κs a x y at at' p q = p ∙ sym q
 pub sums : Determined sums_reads.Post
 sums κs a x y at at' p q = p ∙ sym q
 
-pub left-side : Determined left_side_reads.Post
-left-side κs a x y at at' p q = p ∙ sym q
+pub left_side : Determined left_side_reads.Post
+left_side κs a x y at at' p q = p ∙ sym q
 
 pub right_entry : Determined right_entry_reads.Post
 right_entry κs a x y at at' p q = p ∙ sym q

@@ -26,10 +26,10 @@ abbrev pub three_broken : Table
 three_broken =
     table_of (10 ∷ 131 ∷ 200 ∷ 150 ∷ 150 ∷ 300 ∷ 200 ∷ 150 ∷ 250 ∷ 155 ∷ 255 ∷ 151 ∷ 251 ∷ 200 ∷ 350 ∷ 250 ∷ 200 ∷ 1404 ∷ 20 ∷ [])
 
-pub known-broken-rules :
+pub known_broken_rules :
     map (is_broken three_broken) (1 ∷ 2 ∷ 3 ∷ 4 ∷ 5 ∷ 6 ∷ 7 ∷ 8 ∷ 9 ∷ 10 ∷ 11 ∷ 12 ∷ 13 ∷ 14 ∷ 15 ∷ 16 ∷ [])
     ≡ false ∷ true ∷ false ∷ false ∷ false ∷ false ∷ false ∷ false ∷ false ∷ false ∷ false ∷ false ∷ false ∷ true ∷ false ∷ true ∷ []
-known-broken-rules = refl
+known_broken_rules = refl
 
 pub known_sides :
     (left_side three_broken 2 ≡ 151) × (right_side three_broken 2 ≡ 150) × (left_side three_broken 14 ≡ 1405) × (right_side three_broken 14 ≡ 1404)

@@ -30,14 +30,14 @@ use Rattle.admission.proofs.first_tighter.Reads as first_tighter_reads
 use Rattle.admission.proofs.is_tighter.Reads as is_tighter_reads
 
 -- ---- the tests are the statements
-limits-tested : (i : ℕ) → Tests (is_limit i) (Limit i)
-limits-tested i = some_of most (all_of most most)
+limits_tested : (i : ℕ) → Tests (is_limit i) (Limit i)
+limits_tested i = some_of most (all_of most most)
 
-waits-tested : (i : ℕ) → Tests (is_wait i) (Waiting i)
-waits-tested i = some_of (all_of most most) (all_of most most)
+waits_tested : (i : ℕ) → Tests (is_wait i) (Waiting i)
+waits_tested i = some_of (all_of most most) (all_of most most)
 
 tighter_tested : (t u : Table) (i : ℕ) → Tests (tighter_at t u i) (Tighter t u i)
-tighter_tested t u i = some_of (all_of (limits-tested i) most) (all_of (waits-tested i) most)
+tighter_tested t u i = some_of (all_of (limits_tested i) most) (all_of (waits_tested i) most)
 
 -- ---- the first of them
 the_first_tighter_entry : (t u : Table) → FirstTighter t u (first_tighter t u)
@@ -69,8 +69,8 @@ module _ (t u : Table) where
   no_larger : ((i : ℕ) → ¬ Tighter t u i) → (i : ℕ) → Waiting i → entry u i ≤ entry t i
   no_larger none i w = not_less (entry u i) (entry t i) (λ h. none i (inr (w, h)))
 
-  no-entry→nowhere : ((i : ℕ) → ¬ Tighter t u i) → NowhereTighter t u
-  no-entry→nowhere none = record {
+  no_entry→nowhere : ((i : ℕ) → ¬ Tighter t u i) → NowhereTighter t u
+  no_entry→nowhere none = record {
     limits = each_of (λ i. entry t i ≤ entry u i) 0 11 (λ i l h. no_smaller none i (inl (omega arith)));
     delays = each_of (λ i. entry u i ≤ entry t i) 11 2 (λ i l h. no_larger none i (inl (omega arith)));
     phases = each_of (λ i. entry t i ≤ entry u i) 13 4 (λ i l h. no_smaller none i (inr (omega arith)));
@@ -80,8 +80,8 @@ module _ (t u : Table) where
   not_both : (m n : ℕ) → m ≤ n → n < m → ⊥
   not_both m n l h = omega arith
 
-  nowhere→no-entry : NowhereTighter t u → (i : ℕ) → ¬ Tighter t u i
-  nowhere→no-entry n i =
+  nowhere→no_entry : NowhereTighter t u → (i : ℕ) → ¬ Tighter t u i
+  nowhere→no_entry n i =
       ⊎_elim
       (λ x.
       ⊎_elim
@@ -103,10 +103,10 @@ module _ (t u : Table) where
 
   nowhere_tighter_by_its_answer : (r : ℕ) → FirstTighter t u r → (r ≡ 22) ↔ NowhereTighter t u
   nowhere_tighter_by_its_answer r f = (
-    λ e. no-entry→nowhere (λ i n. let h = one_of_them i n in f.none_before i (omega arith) n),
+    λ e. no_entry→nowhere (λ i n. let h = one_of_them i n in f.none_before i (omega arith) n),
     λ n.
         elim (dec_lt r 22) [
-          | yes h ↦ absurd (nowhere→no-entry n r (f.tighter h))
+          | yes h ↦ absurd (nowhere→no_entry n r (f.tighter h))
           | no h ↦ let w = f.within in omega arith
         ],
   )

@@ -75,9 +75,9 @@ same : (b : Bool) (m m' n : ℕ) → ¬ (cond b m' n ≡ 0) → (¬ (m' ≡ 0) �
 same true m m' n h f = f h
 same false m m' n h f = refl
 
-pub first-left : (xs ys : List Check) → ¬ (first xs ≡ 0) → first (xs ++ ys) ≡ first xs
-first-left [] ys h = absurd (h refl)
-first-left (c ∷ cs) ys h = same c.ok (first (cs ++ ys)) (first cs) c.number h (first-left cs ys)
+pub first_left : (xs ys : List Check) → ¬ (first xs ≡ 0) → first (xs ++ ys) ≡ first xs
+first_left [] ys h = absurd (h refl)
+first_left (c ∷ cs) ys h = same c.ok (first (cs ++ ys)) (first cs) c.number h (first_left cs ys)
 
 pub first_right : (xs ys : List Check) → Holds xs → first (xs ++ ys) ≡ first ys
 first_right [] ys h = refl
@@ -90,7 +90,7 @@ first_alone (c ∷ cs) ys h = ap (λ m. cond c.ok m c.number) (first_alone cs ys
 
 -- the same of an answer that was found: of the first part where it is a number, of the second where the first part answers 0
 pub found_left : {k : ℕ} (xs ys : List Check) → k ≡ first xs → ¬ (k ≡ 0) → k ≡ first (xs ++ ys)
-found_left xs ys e h = e ∙ sym (first-left xs ys (λ q. h (e ∙ q)))
+found_left xs ys e h = e ∙ sym (first_left xs ys (λ q. h (e ∙ q)))
 
 pub found_right :
     {k m : ℕ} (xs ys : List Check) → T (absent 0 xs) → k ≡ first xs → k ≡ 0 → m ≡ first ys → m ≡ first (xs ++ ys)

@@ -29,8 +29,8 @@ each_of P i zero f = tt
 each_of P i (suc n) f = (f i (omega arith) (omega arith), each_of P (suc i) n (λ k l h. f k (omega arith) (omega arith)))
 
 -- what none of the arms 0 to n - 1 of a `match` took is n or more
-pub past-arms : (n p : ℕ) → Below (λ k. p ≡ k → ⊥) n → n ≤ p
-past-arms n p rest =
+pub past_arms : (n p : ℕ) → Below (λ k. p ≡ k → ⊥) n → n ≤ p
+past_arms n p rest =
     elim (dec_lt p n) [
       | yes h ↦ absurd (below (λ k. p ≡ k → ⊥) n rest p h refl)
       | no h ↦ omega arith

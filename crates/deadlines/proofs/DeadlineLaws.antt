@@ -37,13 +37,13 @@ module _ (a b n : ℕ) where
 
 -- ---- a stage's end beside a clock: whether the clock is past it, where there is one
 module _ (end now : ℕ) where
-  pub past-stage : (l : Bool) → cond l (lesser now end) now < now → leb (cond l now 0) end ≡ false
-  past-stage true h =
+  pub past_stage : (l : Bool) → cond l (lesser now end) now < now → leb (cond l now 0) end ≡ false
+  past_stage true h =
       elim (dec_lt end now) [
         | yes k ↦ lt-leb now end k
         | no k ↦ let m : now ≤ lesser now end = both_below now end now (omega arith) (omega arith) in absurd (omega arith)
       ]
-  past-stage false h = absurd (omega arith)
+  past_stage false h = absurd (omega arith)
 
   pub in_stage : (l : Bool) → now ≤ cond l (lesser now end) now → leb (cond l now 0) end ≡ true
   in_stage true h = le-leb now end (below_both now end now h).1
@@ -99,19 +99,19 @@ module _ (cap stage phase now : ℕ) where
   all_in false u h = to_end u h.0 h.2
 
   -- past the second, it ends there; past the third alone, there
-  stage-end : (l : Bool) → leb (cond l now 0) stage ≡ false → cond l (lesser now stage) now ≡ stage
-  stage-end true b = rw b
-  stage-end false b = let k = leb-false 0 stage b in absurd (omega arith)
+  stage_end : (l : Bool) → leb (cond l now 0) stage ≡ false → cond l (lesser now stage) now ≡ stage
+  stage_end true b = rw b
+  stage_end false b = let k = leb-false 0 stage b in absurd (omega arith)
 
-  phase-end : (l u : Bool) → leb now cap ≡ true → leb (cond l now 0) stage ≡ true → until l u < now → end u ≡ phase
-  phase-end l true a b h =
+  phase_end : (l u : Bool) → leb now cap ≡ true → leb (cond l now 0) stage ≡ true → until l u < now → end u ≡ phase
+  phase_end l true a b h =
       elim (dec_lt phase now) [
         | yes k ↦ let m = leb-true now cap a in rw (lt-leb cap phase (omega arith))
         | no k ↦
             let m : now ≤ until l true = all_in l true (passes (leb now cap) a, passes (leb (cond l now 0) stage) b, le→leb now phase (omega arith)) in
             absurd (omega arith)
       ]
-  phase-end l false a b h =
+  phase_end l false a b h =
       let m : now ≤ until l false = all_in l false (passes (leb now cap) a, passes (leb (cond l now 0) stage) b, le→leb 0 phase (omega arith)) in
       absurd (omega arith)
 
@@ -173,8 +173,8 @@ module _ (t : Table) (s : State) where
       let k = late_by device t.channel_dl s now in
       over_by (phase_end_of t s) device t.channel_dl s now k ≡ excess_by t s 0 now k)
   so_far_over now h =
-      let end = stage-end 4294967295 (stage_bound t s) (phase_bound t s) now (limited s) in
-      let phase-is = phase-end 4294967295 (stage_bound t s) (phase_bound t s) now (limited s) shifting in
+      let end = stage_end 4294967295 (stage_bound t s) (phase_bound t s) now (limited s) in
+      let phase-is = phase_end 4294967295 (stage_bound t s) (phase_bound t s) now (limited s) shifting in
       case (by_clock now)
       (λ a.
       case (by_stage now)

@@ -9,11 +9,11 @@ use Rattle.deadlines.proofs.late.Reads as late_reads
 use Rattle.deadlines.proofs.over.Reads as over_reads
 use Rattle.deadlines.proofs.enters.Reads as enters_reads
 
-pub phase-end : Determined phase_end_reads.Post
-phase-end κs a x y at at' p q = p ∙ sym q
+pub phase_end : Determined phase_end_reads.Post
+phase_end κs a x y at at' p q = p ∙ sym q
 
-pub device-limit : Determined device_limit_reads.Post
-device-limit κs a x y at at' p q = p ∙ sym q
+pub device_limit : Determined device_limit_reads.Post
+device_limit κs a x y at at' p q = p ∙ sym q
 
 pub deadline : Determined deadline_reads.Post
 deadline κs a x y at at' p q = p ∙ sym q

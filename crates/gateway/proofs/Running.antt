@@ -12,10 +12,10 @@ use Rattle.shift.specs.Answers.{guard, led, excess, answer, judged, admitting}
 use Rattle.shift.specs.Runs.{Outcome, after, run}
 use Rattle.stepfile.specs.Records.{record_of, records_in}
 use Rattle.stepfile.specs.Files.{table_in, refusal_of, record_bytes}
-use Rattle.stepfile.proofs.WholeLaws.{good-file}
+use Rattle.stepfile.proofs.WholeLaws.{good_file}
 use Rattle.verdict.specs.Verdicts.{verdict_of}
 use Rattle.verdict.proofs.Verdicts.{outcome}
-use Rattle.verdict.proofs.Judging.{read-verdict}
+use Rattle.verdict.proofs.Judging.{read_verdict}
 use Rattle.gateway.specs.Advancing.{advanced_on, advancing}
 
 -- under an admitted table a record is answered by what it means
@@ -49,4 +49,4 @@ one_by_one t s (a ∷ b ∷ c ∷ d ∷ rest) z =
 pub advancing_is_judging :
     (f : List ℕ) → (refusal_of f).number ≡ 0 → advancing (table_in f) start (record_bytes f) ≡ outcome (verdict_of f)
 advancing_is_judging f z =
-    one_by_one (table_in f) start (record_bytes f) (good-file f z).admitted ∙ ap outcome (read-verdict f z)
+    one_by_one (table_in f) start (record_bytes f) (good_file f z).admitted ∙ ap outcome (read_verdict f z)

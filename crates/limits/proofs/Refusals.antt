@@ -55,8 +55,8 @@ zeros t =
     record {
       read = λ h.
           let z = each.read h in
-          record { plain_open = z.0; error_open = z.1.0; plain-close = z.1.1.0; error-close = z.1.1.1 };
-      shown = λ n. each.shown (n.plain_open, (n.error_open, (n.plain-close, n.error-close)));
+          record { plain_open = z.0; error_open = z.1.0; plain_close = z.1.1.0; error_close = z.1.1.1 };
+      shown = λ n. each.shown (n.plain_open, (n.error_open, (n.plain_close, n.error_close)));
     }
 
 waiting : (plain error device : ℕ) → Tests (waits plain error device) ((1 ≤ plain) × ((plain < error) × (error ≤ device)))
@@ -80,14 +80,14 @@ module _ (t : Table) where
             let w = each.read h in
             record {
               plain_open = w.0.0;
-              plain-close = w.1.0;
+              plain_close = w.1.0;
               exceeds_open = w.0.1.0;
               exceeds_close = w.1.1.0;
               within_open = w.0.1.1;
-              within-close = w.1.1.1;
+              within_close = w.1.1.1;
             };
         shown = λ d.
-            each.shown ((d.plain_open, (d.exceeds_open, d.within_open)), (d.plain-close, (d.exceeds_close, d.within-close)));
+            each.shown ((d.plain_open, (d.exceeds_open, d.within_open)), (d.plain_close, (d.exceeds_close, d.within_close)));
       }
 
   delays : Tests (undelayed t || (opens && closes)) (NoDelays t ⊎ BothDelayed t)

@@ -18,5 +18,5 @@ all_tested : (b : Bool) (xs : List ℕ) → tested b xs ≡ b && at_least1 xs
 all_tested b [] = sym (and-true b)
 all_tested b (x ∷ xs) = all_tested (b && leb 1 x) xs ∙ and_assoc b (leb 1 x) (at_least1 xs)
 
-pub limits-tested : (t : Table) → tested true (limits t) ≡ at_least1 (limits t)
-limits-tested t = all_tested true (limits t)
+pub limits_tested : (t : Table) → tested true (limits t) ≡ at_least1 (limits t)
+limits_tested t = all_tested true (limits t)

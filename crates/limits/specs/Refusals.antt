@@ -74,16 +74,16 @@ positive t =
 pub record NoDelays (t : Table) : Type 0 where
   pub plain_open : t.clutch_open_de ≡ 0
   pub error_open : t.error_clutch_open_de ≡ 0
-  pub plain-close : t.clutch_close_de ≡ 0
-  pub error-close : t.error_clutch_close_de ≡ 0
+  pub plain_close : t.clutch_close_de ≡ 0
+  pub error_close : t.error_clutch_close_de ≡ 0
 
 pub record BothDelayed (t : Table) : Type 0 where
   pub plain_open : 1 ≤ t.clutch_open_de
-  pub plain-close : 1 ≤ t.clutch_close_de
+  pub plain_close : 1 ≤ t.clutch_close_de
   pub exceeds_open : t.clutch_open_de < t.error_clutch_open_de
   pub exceeds_close : t.clutch_close_de < t.error_clutch_close_de
   pub within_open : t.error_clutch_open_de ≤ t.clutch_open_dl
-  pub within-close : t.error_clutch_close_de ≤ t.clutch_close_dl
+  pub within_close : t.error_clutch_close_de ≤ t.clutch_close_dl
 
 -- rules 1 to 16
 abbrev pub rules_stated : Table → List (Type 0)

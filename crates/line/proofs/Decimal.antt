@@ -57,13 +57,13 @@ abbrev pub read_from : ℕ → List ℕ → ℕ
 read_from m [] = m
 read_from m (d ∷ ds) = read_from (m * 10 + (d - 48)) ds
 
-read-last : (m : ℕ) (ds : List ℕ) (d : ℕ) → read_from m (ds ++ d ∷ []) ≡ read_from m ds * 10 + (d - 48)
-read-last m [] d = refl
-read-last m (e ∷ ds) d = read-last (m * 10 + (e - 48)) ds d
+read_last : (m : ℕ) (ds : List ℕ) (d : ℕ) → read_from m (ds ++ d ∷ []) ≡ read_from m ds * 10 + (d - 48)
+read_last m [] d = refl
+read_last m (e ∷ ds) d = read_last (m * 10 + (e - 48)) ds d
 
-read-spelled : (m n : ℕ) → n < m → read_from 0 (spelled m n) ≡ n
-read-spelled zero n h = absurd (omega arith)
-read-spelled (suc m) n h = case (ltb n 10) one (more (read-spelled m (n / 10)))
+read_spelled : (m n : ℕ) → n < m → read_from 0 (spelled m n) ≡ n
+read_spelled zero n h = absurd (omega arith)
+read_spelled (suc m) n h = case (ltb n 10) one (more (read_spelled m (n / 10)))
   where
     one : ltb n 10 ≡ true → read_from 0 (spelled (suc m) n) ≡ n
     one e = rw e (omega arith)
@@ -71,12 +71,12 @@ read-spelled (suc m) n h = case (ltb n 10) one (more (read-spelled m (n / 10)))
     more : (n / 10 < m → read_from 0 (spelled m (n / 10)) ≡ n / 10) → ltb n 10 ≡ false → read_from 0 (spelled (suc m) n) ≡ n
     more rest e =
         let above : 10 ≤ n = ltb-false n 10 e in
-        rw (e, read-last 0 (spelled m (n / 10)) (48 + n % 10), rest (omega arith)) (omega arith)
+        rw (e, read_last 0 (spelled m (n / 10)) (48 + n % 10), rest (omega arith)) (omega arith)
 
 -- the digits read back are the number
 pub read : (n : ℕ) → read_from 0 (decimal_of n) ≡ n
 unfolding decimal_of
-read n = read-spelled (suc n) n (omega arith)
+read n = read_spelled (suc n) n (omega arith)
 
 -- one digit more for ten times as much
 longer : (n k : ℕ) → 10 ≤ n → IsDigitCount 10 1 (n / 10) k → IsDigitCount 10 1 n (k + 1)

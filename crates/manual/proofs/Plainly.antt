@@ -29,9 +29,9 @@ use Rattle.manual.proofs.GuardLaws.{past_by, held, carries, alone}
 abbrev asked : Bool → ℕ → ℕ → Bool
 asked b x y = not b || leb x y
 
-held-asked : (b : Bool) (x y : ℕ) → leb (cond b x 0) y ≡ asked b x y
-held-asked true x y = refl
-held-asked false x y = leb-zero y
+held_asked : (b : Bool) (x y : ℕ) → leb (cond b x 0) y ≡ asked b x y
+held_asked true x y = refl
+held_asked false x y = leb-zero y
 
 -- by how much a tick to `now` is past the last clock, past the limit of the channel or the device, past that of the phase
 abbrev past_clock : ℕ → ℕ
@@ -69,10 +69,10 @@ plain t s FromNeutral = refl
 plain t s GearToGear = refl
 plain t s ToNeutral = refl
 plain t s Deliver = refl
-plain t s DeviceGood = rw (held-asked (clutch_order s.phase) (good_bound t s) s.clock)
-plain t s DeviceFailed = rw (held-asked (clutch_order s.phase) (failed_bound t s) s.clock)
+plain t s DeviceGood = rw (held_asked (clutch_order s.phase) (good_bound t s) s.clock)
+plain t s DeviceFailed = rw (held_asked (clutch_order s.phase) (failed_bound t s) s.clock)
 plain t s EngineWaits = refl
-plain t s Take = rw (held-asked (engine s.phase) s.clock (take_bound t s))
+plain t s Take = rw (held_asked (engine s.phase) s.clock (take_bound t s))
 plain t s AskClutch = refl
 plain t s RaiseError = refl
 plain t s Finish = refl

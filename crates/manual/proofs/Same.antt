@@ -42,11 +42,11 @@ module _ (t : Table) (w : Variables) (s : State) where
   abbrev pub ours : Place → Step → ℕ
   ours c x = first (listed (state_at c w s) ++ plainly t (state_at c w s) x)
 
-  abbrev pub theirs-over : Place → Step → ℕ
-  theirs-over c x = exceeded (stepped t (vars_at c w) x)
+  abbrev pub theirs_over : Place → Step → ℕ
+  theirs_over c x = exceeded (stepped t (vars_at c w) x)
 
-  abbrev pub ours-over : Place → Step → ℕ
-  ours-over c x = plain_over t (state_at c w s) x
+  abbrev pub ours_over : Place → Step → ℕ
+  ours_over c x = plain_over t (state_at c w s) x
 
   abbrev pub after : Place → Step → Variables
   after c x = (stepped t (vars_at c w) x).after
@@ -57,7 +57,7 @@ module _ (t : Table) (w : Variables) (s : State) where
   unfoldable pub found : Place → Step → Fact
   found c x = record {
     number = theirs c x;
-    excess = theirs-over c x;
+    excess = theirs_over c x;
     refusal = cond (goes c x) 0 (ours c x);
     variables = cond (goes c x) (after c x) w;
     state = cond (goes c x) (next c x) s;
@@ -67,7 +67,7 @@ module _ (t : Table) (w : Variables) (s : State) where
   unfoldable pub wanted : Place → Step → Fact
   wanted c x = record {
     number = ours c x;
-    excess = ours-over c x;
+    excess = ours_over c x;
     refusal = cond (goes c x) 0 (suc (refusal c x));
     variables = cond (goes c x) (vars_at (leads c x) (after c x)) w;
     state = cond (goes c x) (state_at (leads c x) (after c x) (next c x)) s;

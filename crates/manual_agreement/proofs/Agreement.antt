@@ -26,9 +26,9 @@ use Rattle.manual_agreement.specs.Agreement.{Reads, Agrees, Alike}
 use Rattle.manual_agreement.proofs.Joined.{Joined, answers, exceeds, leads_on}
 use Rattle.manual_agreement.proofs.Readings.{reads}
 
-pub at-start : Joined initialisation start
+pub at_start : Joined initialisation start
 unfolding vars_at state_at
-at-start = record { place = rest true; valid-place = tt; variables = refl; state = refl }
+at_start = record { place = rest true; valid_place = tt; variables = refl; state = refl }
 
 -- ---- one reading
 
@@ -37,10 +37,10 @@ same t v s (Means x) i = answers t v s x i
 same t v s WrongCode i = refl
 same t v s WrongAmount i = refl
 
-same-excess : (t : Table) (v : Variables) (s : State) (r : Reading) → Joined v s → excess_of t v r ≡ excess t s r (guard t s r)
-same-excess t v s (Means x) i = exceeds t v s x i
-same-excess t v s WrongCode i = refl
-same-excess t v s WrongAmount i = refl
+same_excess : (t : Table) (v : Variables) (s : State) (r : Reading) → Joined v s → excess_of t v r ≡ excess t s r (guard t s r)
+same_excess t v s (Means x) i = exceeds t v s x i
+same_excess t v s WrongCode i = refl
+same_excess t v s WrongAmount i = refl
 
 goes_on :
     (t : Table) (v : Variables) (s : State) (r : Reading) → Joined v s → number_of t v r ≡ 0 → Joined (led_to t v r) (led s r)
@@ -74,7 +74,7 @@ pub one_reading :
 one_reading t v s r i =
     by_rule (broken_rule t) (moved t v r) (judged t s r) v s i
     (subst (λ (k : ℕ). Together (moved t v r) (answer k (excess t s r (guard t s r)) (led s r) s)) (same t v s r i)
-    (subst (λ (e : ℕ). Together (moved t v r) (answer (number_of t v r) e (led s r) s)) (same-excess t v s r i)
+    (subst (λ (e : ℕ). Together (moved t v r) (answer (number_of t v r) e (led s r) s)) (same_excess t v s r i)
     (by_number (number_of t v r) (excess_of t v r) v (led_to t v r) s (led s r) i (goes_on t v s r i))))
 
 -- ---- a list of readings
@@ -87,18 +87,18 @@ one_more zero over v s m o r f =
     record { count = ap suc a.count; number = a.number; excess = a.excess; reads = a.reads }
 one_more (suc k) over v s m o r f = record { count = refl; number = refl; excess = refl; reads = r }
 
-from-joined :
+from_joined :
     (t : Table) (v : Variables) (s : State) (rs : List Reading) → Joined v s → Agrees (manual.run t v rs) (run t s rs)
-from-joined t v s [] i = record { count = refl; number = refl; excess = refl; reads = reads v s i }
-from-joined t v s (r ∷ rs) i =
+from_joined t v s [] i = record { count = refl; number = refl; excess = refl; reads = reads v s i }
+from_joined t v s (r ∷ rs) i =
     let m = manual.run t (led_to t v r) rs in
     let o = run t (led s r) rs in
     subst (λ (k : ℕ). Agrees (manual.run t v (r ∷ rs)) (after k (excess t s r (guard t s r)) s o)) (same t v s r i)
-    (subst (λ (e : ℕ). Agrees (manual.run t v (r ∷ rs)) (after (number_of t v r) e s o)) (same-excess t v s r i)
+    (subst (λ (e : ℕ). Agrees (manual.run t v (r ∷ rs)) (after (number_of t v r) e s o)) (same_excess t v s r i)
     (one_more (number_of t v r) (excess_of t v r) v s m o (reads v s i)
-    (λ e. from-joined t (led_to t v r) (led s r) rs (goes_on t v s r i e))))
+    (λ e. from_joined t (led_to t v r) (led s r) rs (goes_on t v s r i e))))
 
 -- for every table, admitted or not, and every list
 pub the_manual's_engine_is_our_machine :
     (t : Table) (rs : List Reading) → Agrees (manual.run t initialisation rs) (run t start rs)
-the_manual's_engine_is_our_machine t rs = from-joined t initialisation start rs at-start
+the_manual's_engine_is_our_machine t rs = from_joined t initialisation start rs at_start

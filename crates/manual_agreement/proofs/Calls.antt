@@ -25,7 +25,7 @@ use Rattle.manual_engine.specs.contracts.step as their_step
 use Rattle.manual_engine.proofs.step.Reads as their_step_reads
 use Rattle.manual_agreement.specs.Agreement.{Alike}
 use Rattle.manual_agreement.proofs.Joined.{Joined}
-use Rattle.manual_agreement.proofs.Agreement.{Together, at-start, one_reading}
+use Rattle.manual_agreement.proofs.Agreement.{Together, at_start, one_reading}
 
 -- a call of each start, and what it gave
 pub record Started (v : Variables) (s : State) : Type 0 where
@@ -62,7 +62,7 @@ together v s t code amount m a i c =
 
 joined : {v : Variables} {s : State} → Advanced v s → Joined v s
 joined (started v s c) =
-    subst (λ (x : Variables). Joined x s) (sym c.theirs) (subst (λ (x : State). Joined initialisation x) (sym c.ours) at-start)
+    subst (λ (x : Variables). Joined x s) (sym c.theirs) (subst (λ (x : State). Joined initialisation x) (sym c.ours) at_start)
 joined (advanced v s b t code amount m a c) = (together v s t code amount m a (joined b) c).joined
 
 kept :
@@ -79,10 +79,10 @@ pub every_call_is_answered_alike :
 every_call_is_answered_alike v s b t code amount m a c = (together v s t code amount m a (joined b) c).alike
 
 -- refused, a step gives back the variables that it was given, whatever they are
-pub refused-gives-back :
+pub refused_gives_back :
     (v : Variables) (t : Table) (code middle amount : ℕ) (κs : Lfts 0) (m : Moved) (at : AtExit their_step.ended κs)
     → their_step_reads.Post κs (v, (t, (code, (middle, (amount, tt))))) m at → ¬ (m.number ≡ 0) → m.variables ≡ v
-refused-gives-back v t code middle amount κs m at p h =
+refused_gives_back v t code middle amount κs m at p h =
     subst (λ (x : Moved). ¬ (x.number ≡ 0) → x.variables ≡ v) (sym p)
     (let r = reading code middle amount in
     kept (broken_rule t) (number_of t v r) (excess_of t v r) (led_to t v r) v) h

@@ -21,7 +21,7 @@ use Rattle.manual.proofs.Places.{Place, vars_at, state_at, orders, stages, valid
 use Rattle.manual.proofs.Places.Place.{at}
 use Rattle.manual.proofs.Ways.{goes, leads, refusal}
 use Rattle.manual.proofs.Plainly.{plainly, plain, plain_over, over}
-use Rattle.manual.proofs.Same.{Fact, found, wanted, all_found, all_wanted, theirs, ours, theirs-over, ours-over, after, next, resting, sent, working, ready, held, ended, failed}
+use Rattle.manual.proofs.Same.{Fact, found, wanted, all_found, all_wanted, theirs, ours, theirs_over, ours_over, after, next, resting, sent, working, ready, held, ended, failed}
 use Rattle.manual_agreement.proofs.Every.{at_each_place, each, amount}
 
 -- ---- the facts of every place and step
@@ -56,9 +56,9 @@ module _ (t : Table) (w : Variables) (s : State) (c : Place) (h : T (valid c)) (
   unfolding found wanted
   same_number = ap (λ (f : Fact). f.number) fact
 
-  same-excess : theirs-over t w s c x ≡ ours-over t w s c x
+  same_excess : theirs_over t w s c x ≡ ours_over t w s c x
   unfolding found wanted
-  same-excess = ap (λ (f : Fact). f.excess) fact
+  same_excess = ap (λ (f : Fact). f.excess) fact
 
   pub goes_where_accepted : theirs t w s c x ≡ 0 → goes c x ≡ false → ⊥
   unfolding found wanted
@@ -83,7 +83,7 @@ module _ (t : Table) (w : Variables) (s : State) (c : Place) (h : T (valid c)) (
 
 pub record Joined (v : Variables) (s : State) : Type 0 where
   pub place : Place
-  pub valid-place : T (valid place)
+  pub valid_place : T (valid place)
   pub variables : v ≡ vars_at place v
   pub state : s ≡ state_at place v s
 
@@ -94,23 +94,23 @@ module _ (t : Table) (v : Variables) (s : State) (x : Step) (i : Joined v s) whe
   pub answers : answered (stepped t v x) ≡ guard t s (Means x)
   answers =
       subst (λ (u : Variables). answered (stepped t u x) ≡ guard t s (Means x)) (sym i.variables)
-      (same_number t v s c i.valid-place x
+      (same_number t v s c i.valid_place x
       ∙ subst (λ (r : State). first (listed r ++ plainly t r x) ≡ guard t s (Means x)) i.state
       (ap (λ (cs : List Check). first (listed s ++ cs)) (sym (plain t s x))))
 
   pub exceeds : exceeded (stepped t v x) ≡ excess t s (Means x) (guard t s (Means x))
   exceeds =
       subst (λ (u : Variables). exceeded (stepped t u x) ≡ excess t s (Means x) (guard t s (Means x))) (sym i.variables)
-      (same-excess t v s c i.valid-place x
+      (same_excess t v s c i.valid_place x
       ∙ subst (λ (r : State). plain_over t r x ≡ excess t s (Means x) (guard t s (Means x))) i.state (sym (over t s x)))
 
   pub leads_on : answered (stepped t v x) ≡ 0 → Joined (stepped t v x).after (effect s x)
   leads_on z =
-      let h = i.valid-place in
+      let h = i.valid_place in
       case (goes c x)
       (λ e. record {
         place = leads c x;
-        valid-place = still_valid t v s c h x e;
+        valid_place = still_valid t v s c h x e;
         variables =
             subst (λ (u : Variables). (stepped t u x).after ≡ vars_at (leads c x) (stepped t u x).after) (sym i.variables)
             (same_after t v s c h x e);

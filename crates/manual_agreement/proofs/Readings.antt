@@ -41,4 +41,4 @@ reads_at w s c h =
 pub reads : (v : Variables) (s : State) → Joined v s → Reads v s
 reads v s i =
     subst (λ (u : Variables). Reads u s) (sym i.variables)
-    (subst (λ (r : State). Reads (vars_at i.place v) r) (sym i.state) (reads_at v s i.place i.valid-place))
+    (subst (λ (r : State). Reads (vars_at i.place v) r) (sym i.state) (reads_at v s i.place i.valid_place))

@@ -27,7 +27,7 @@ use Rattle.manual.proofs.Same.{steps}
 use Rattle.manual_agreement.proofs.Every.{every, in_each_phase, at_each_place, each, amount}
 use Rattle.manual_agreement.proofs.Joined.{taken}
 use Rattle.manual_invariants.proofs.ListLaws.{Each, all, each→all, tail, each_tail, each_append, refused_by, none_refuses}
-use Rattle.manual_invariants.proofs.Standing.{StandsAt, at-start, goes_there, stands_on}
+use Rattle.manual_invariants.proofs.Standing.{StandsAt, at_start, goes_there, stands_on}
 
 -- ---- bounds
 
@@ -147,8 +147,8 @@ module _ (t : Table) (w : Variables) where
     resting true = refl
     resting false = refl
 
-    at-a-place : (c : Place) → T (valid c) → found c ≡ wanted c
-    at-a-place = at_each_place found wanted resting shifting ended failed
+    at_a_place : (c : Place) → T (valid c) → found c ≡ wanted c
+    at_a_place = at_each_place found wanted resting shifting ended failed
 
     -- of the guards of Tick_Tock on phases one is left, that of the place's phase
     abbrev phase_guards : ℕ → ℕ → List Bool
@@ -216,22 +216,22 @@ module _ (t : Table) (w : Variables) where
   due_at_tick n (done p) h z i = i
   due_at_tick n (error p) h z i = i
 
-  due-holds :
+  due_holds :
       (c : Place) (x : Step) → T (valid c) → goes c x ≡ true → answered (stepped t (vars_at c w) x) ≡ 0 → Each (tests c)
       → Each (due c x)
-  due-holds c FromNeutral h e z i = (begins 1, tt)
-  due-holds c GearToGear h e z i = (begins 6, tt)
-  due-holds c ToNeutral h e z i = (begins 17, tt)
-  due-holds c Deliver h e z i = i
-  due-holds c DeviceGood h e z i = i
-  due-holds c DeviceFailed h e z i = i
-  due-holds c EngineWaits h e z i = i
-  due-holds c Take h e z i = due-at-take c h e z i
-  due-holds c AskClutch h e z i = due_at_ask c i
-  due-holds c RaiseError h e z i = each_tail (tests c) i
-  due-holds c Finish h e z i = tt
-  due-holds c (Tick n) h e z i = due_at_tick n c h z i
-  due-holds c Reset h e z i = tt
+  due_holds c FromNeutral h e z i = (begins 1, tt)
+  due_holds c GearToGear h e z i = (begins 6, tt)
+  due_holds c ToNeutral h e z i = (begins 17, tt)
+  due_holds c Deliver h e z i = i
+  due_holds c DeviceGood h e z i = i
+  due_holds c DeviceFailed h e z i = i
+  due_holds c EngineWaits h e z i = i
+  due_holds c Take h e z i = due-at-take c h e z i
+  due_holds c AskClutch h e z i = due_at_ask c i
+  due_holds c RaiseError h e z i = each_tail (tests c) i
+  due_holds c Finish h e z i = tt
+  due_holds c (Tick n) h e z i = due_at_tick n c h z i
+  due_holds c Reset h e z i = tt
 
   keeps :
       (c : Place) (x : Step) → T (valid c) → goes c x ≡ true → answered (stepped t (vars_at c w) x) ≡ 0 → Each (tests c)
@@ -240,8 +240,8 @@ module _ (t : Table) (w : Variables) where
   keeps c x h e z i =
       subst Each
       (sym (taken (goes c x) (map (test t (after c x)) (bounds (leads c x))) (due c x) [] e
-      (each (λ (y : Step). cond (goes c y) (map (test t (after c y)) (bounds (leads c y))) []) (λ (y : Step). cond (goes c y) (due c y) []) x (at-a-place (amount x) c h))))
-      (due-holds c x h e z i)
+      (each (λ (y : Step). cond (goes c y) (map (test t (after c y)) (bounds (leads c y))) []) (λ (y : Step). cond (goes c y) (due c y) []) x (at_a_place (amount x) c h))))
+      (due_holds c x h e z i)
 
 -- ---- what a run keeps: the variables stand at a place, and its bounds hold
 pub record Timely (t : Table) (v : Variables) : Type 0 where
@@ -250,7 +250,7 @@ pub record Timely (t : Table) (v : Variables) : Type 0 where
   pub in_time : Each (map (test t v) (bounds place))
 
 pub timely_at_start : (t : Table) → Timely t initialisation
-timely_at_start t = record { place = rest true; stands = at-start; in_time = tt }
+timely_at_start t = record { place = rest true; stands = at_start; in_time = tt }
 
 pub timely_on : (t : Table) (v : Variables) (x : Step) → Timely t v → answered (stepped t v x) ≡ 0 → Timely t (stepped t v x).after
 timely_on t v x i z =
@@ -262,5 +262,5 @@ timely_on t v x i z =
       stands = stands_on t v x c s e;
       in_time =
           subst (λ (u : Variables). Each (map (test t (stepped t u x).after) (bounds (leads c x)))) (sym s.variables)
-          (keeps t v c x s.valid-place e (subst (λ (u : Variables). answered (stepped t u x) ≡ 0) s.variables z) i.in_time);
+          (keeps t v c x s.valid_place e (subst (λ (u : Variables). answered (stepped t u x) ≡ 0) s.variables z) i.in_time);
     }

@@ -47,8 +47,8 @@ module _ (w : Variables) where
   unfolding found vars_at
   resting b = refl
 
-  at-a-place : (c : Place) → T (valid c) → found c ≡ wanted c
-  at-a-place = at_each_place found wanted resting shifting ended failed
+  at_a_place : (c : Place) → T (valid c) → found c ≡ wanted c
+  at_a_place = at_each_place found wanted resting shifting ended failed
 
 holding : (is : List Invariant) → all (formulas is) ≡ true → Hold is
 holding is e = each→hold is (all→each (formulas is) (passes (all (formulas is)) e))
@@ -56,7 +56,7 @@ holding is e = each→hold is (all→each (formulas is) (passes (all (formulas i
 pub flags_hold : (c : Place) (v : Variables) → StandsAt c v → FlagInvariants v
 unfolding found
 flags_hold c v i =
-    let e : tests v ≡ passing = subst (λ (u : Variables). tests u ≡ passing) (sym i.variables) (at-a-place v c i.valid-place) in
+    let e : tests v ≡ passing = subst (λ (u : Variables). tests u ≡ passing) (sym i.variables) (at_a_place v c i.valid_place) in
     record {
       m1 = holding (m1 v) (ap (λ l. get_or l 0 true) e);
       m5 = holding (m5 v) (ap (λ l. get_or l 1 true) e);

@@ -26,12 +26,12 @@ use Rattle.manual.proofs.Places.Place.{rest}
 use Rattle.manual_agreement.proofs.Joined.{goes_where_accepted, same_after, still_valid}
 
 pub record StandsAt (c : Place) (v : Variables) : Type 0 where
-  pub valid-place : T (valid c)
+  pub valid_place : T (valid c)
   pub variables : v ≡ vars_at c v
 
-pub at-start : StandsAt (rest true) initialisation
+pub at_start : StandsAt (rest true) initialisation
 unfolding vars_at
-at-start = record { valid-place = tt; variables = refl }
+at_start = record { valid_place = tt; variables = refl }
 
 module _ (t : Table) (v : Variables) (x : Step) (c : Place) (i : StandsAt c v) where
   -- an accepted step is one that the place allows
@@ -39,14 +39,14 @@ module _ (t : Table) (v : Variables) (x : Step) (c : Place) (i : StandsAt c v) w
   goes_there z =
       case (goes c x)
       (λ e. e)
-      (λ e. absurd (goes_where_accepted t v start c i.valid-place x (subst (λ (u : Variables). answered (stepped t u x) ≡ 0) i.variables z) e))
+      (λ e. absurd (goes_where_accepted t v start c i.valid_place x (subst (λ (u : Variables). answered (stepped t u x) ≡ 0) i.variables z) e))
 
   pub stands_on : goes c x ≡ true → StandsAt (leads c x) (stepped t v x).after
   stands_on e = record {
-    valid-place = still_valid t v start c i.valid-place x e;
+    valid_place = still_valid t v start c i.valid_place x e;
     variables =
         subst (λ (u : Variables). (stepped t u x).after ≡ vars_at (leads c x) (stepped t u x).after) (sym i.variables)
-        (same_after t v start c i.valid-place x e);
+        (same_after t v start c i.valid_place x e);
   }
 
 -- ---- runs

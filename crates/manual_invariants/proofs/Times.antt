@@ -136,8 +136,8 @@ module _ (t : Table) (w : Variables) where
       (λ r. is_known a bs r i.1)
       (either (same a b) (known a bs) h)
 
-  claim-holds : (bs : List Bound) (k : Claim) → T (follows bs k) → Each (map (test t w) bs) → T (claim t w k)
-  claim-holds bs k h i =
+  claim_holds : (bs : List Bound) (k : Claim) → T (follows bs k) → Each (map (test t w) bs) → T (claim t w k)
+  claim_holds bs k h i =
       let x = began w k.late in
       let y = began w k.early in
       let m = began w k.via in
@@ -162,7 +162,7 @@ module _ (t : Table) (w : Variables) where
       → Each (map (λ (k : Claim). cond (follows bs k) (claim t w k) true) ks)
   claims_hold bs [] i = tt
   claims_hold bs (k ∷ ks) i =
-      (case (follows bs k) (λ e. rw e (claim-holds bs k (passes (follows bs k) e) i)) (λ e. rw e tt), claims_hold bs ks i)
+      (case (follows bs k) (λ e. rw e (claim_holds bs k (passes (follows bs k) e) i)) (λ e. rw e tt), claims_hold bs ks i)
 
 -- ---- at each place
 
@@ -196,14 +196,14 @@ module _ (t : Table) (w : Variables) where
   unfolding vars_at found wanted
   resting b = refl
 
-  at-a-place : (c : Place) → T (valid c) → found c ≡ wanted c
-  at-a-place = at_each_place found wanted resting shifting ended failed
+  at_a_place : (c : Place) → T (valid c) → found c ≡ wanted c
+  at_a_place = at_each_place found wanted resting shifting ended failed
 
 pub times_hold : (t : Table) (v : Variables) → Timely t v → TimeInvariants t v
 unfolding found wanted
 times_hold t v i =
     let c = i.place in
-    let e : lists t v ≡ wanted t v c = subst (λ (u : Variables). lists t u ≡ wanted t v c) (sym i.stands.variables) (at-a-place t v c i.stands.valid-place) in
+    let e : lists t v ≡ wanted t v c = subst (λ (u : Variables). lists t u ≡ wanted t v c) (sym i.stands.variables) (at_a_place t v c i.stands.valid_place) in
     record {
       m5 = each→hold (m5_times t v) (subst Each (sym (ap (λ l. get_or l 0 []) e)) (claims_hold t v (bounds c) claims5 i.in_time));
       m6 = each→hold (m6_times t v) (subst Each (sym (ap (λ l. get_or l 1 []) e)) (claims_hold t v (bounds c) claims6 i.in_time));

@@ -104,14 +104,14 @@ module _ (t : Table) (v : Variables) (tick : ℕ) where
   in_clock p =
       goes 13 (clock_limit now) (stages ++ phases) (refusing 12 stages ++ refusing 11 phases) (p ∙ sym (alone (now - 4294967295)))
 
-  pub past-stage : {x : ℕ} → x ≡ first_past stages → ¬ (x ≡ 0) → ByStage 12 x
-  past-stage p = stops 12 stages phases (refusing 11 phases) p
+  pub past_stage : {x : ℕ} → x ≡ first_past stages → ¬ (x ≡ 0) → ByStage 12 x
+  past_stage p = stops 12 stages phases (refusing 11 phases) p
 
   pub in_stage : {x k over : ℕ} → x ≡ first_past stages → x ≡ 0 → ByPhase k over → ByStage k over
   in_stage p = goes 12 stages phases (refusing 11 phases) p
 
-  pub past-phase : {x : ℕ} → x ≡ first_past phases → ¬ (x ≡ 0) → ByPhase 11 x
-  past-phase p = stops 11 phases [] [] p
+  pub past_phase : {x : ℕ} → x ≡ first_past phases → ¬ (x ≡ 0) → ByPhase 11 x
+  past_phase p = stops 11 phases [] [] p
 
   pub in_phase : {x : ℕ} → x ≡ first_past phases → x ≡ 0 → ByPhase 0 0
   in_phase p z = goes 11 phases [] [] p z (record { number = refl; excess = refl })

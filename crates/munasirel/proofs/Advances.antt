@@ -34,20 +34,20 @@ module _
   abbrev pub amount : ℕ
   amount = given.1.1.1.1.0 + 256 * given.1.1.1.1.1.0
 
-  abbrev pub state-after : State
-  state-after = at.0.now
+  abbrev pub state_after : State
+  state_after = at.0.now
 
   abbrev pub excess : ℕ
   excess = at.1.1.1.1.1.1.0.now
 
   -- the number is the first whose condition holds, and 0 where none does, and the excess is how far over the record is; refused, the
   -- lent state is as it was; accepted, it is the one that the step makes of it
-  pub the_running_judge_answers_in_the_document's_words : Answered table state code middle amount number excess state-after
+  pub the_running_judge_answers_in_the_document's_words : Answered table state code middle amount number excess state_after
   the_running_judge_answers_in_the_document's_words =
       rw (call.0, call.1, call.2) (a_record table state code middle given.1.1.1.1.0 given.1.1.1.1.1.0)
 
   -- after an error every record but a tick and the reset is refused with 7
   pub the_running_judge_after_an_error :
-      state.phase ≡ 23 → Admitted table → Formed code middle amount → 1 ≤ code → code ≤ 11 → (number ≡ 7) × (state-after ≡ state)
+      state.phase ≡ 23 → Admitted table → Formed code middle amount → 1 ≤ code → code ≤ 11 → (number ≡ 7) × (state_after ≡ state)
   the_running_judge_after_an_error e =
-      an_error_is_final_until_a_reset table state code middle amount e number excess state-after the_running_judge_answers_in_the_document's_words
+      an_error_is_final_until_a_reset table state code middle amount e number excess state_after the_running_judge_answers_in_the_document's_words

@@ -79,8 +79,8 @@ module _
   abbrev pub records : List ℕ
   records = given.1.1.0.now
 
-  abbrev pub state-after : State
-  state-after = at.0.now
+  abbrev pub state_after : State
+  state_after = at.0.now
 
   abbrev pub count : ℕ
   count = at.1.1.1.0.now
@@ -90,14 +90,14 @@ module _
 
   -- the records that are counted are accepted and lead to the state; the one behind them, where the number is not 0, is refused by it
   -- on that state and so far over, and where it is 0 there is none
-  pub the_running_judge_answers_a_block_in_the_document's_words : BlockAnswered table state records number count excess state-after
+  pub the_running_judge_answers_a_block_in_the_document's_words : BlockAnswered table state records number count excess state_after
   the_running_judge_answers_a_block_in_the_document's_words =
       rw (call.0, call.1, call.2, call.3) (where_a_block_stops table state records)
 
   -- a host that calls `munasirel_advance` for each record has the same count, the same number, the same excess and the same state
   pub a_block_is_its_records_through_munasirel_advance :
       (o : Outcome) → OneByOne table state records o
-      → o ≡ record { count = count; number = number; excess = excess; state = state-after }
+      → o ≡ record { count = count; number = number; excess = excess; state = state_after }
   a_block_is_its_records_through_munasirel_advance o calls =
       rw (call.0, call.1, call.2, call.3)
       (called_one_by_one calls ∙ sym (a_block_is_its_records_one_by_one table state records))

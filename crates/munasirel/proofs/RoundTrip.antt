@@ -50,8 +50,8 @@ module _
   abbrev pub table : Table
   table = given.0
 
-  abbrev pub with-table : ℕ
-  with-table = given.1.0
+  abbrev pub with_table : ℕ
+  with_table = given.1.0
 
   abbrev pub codes : List ℕ
   codes = given.1.1.0.now
@@ -76,37 +76,37 @@ module _
   }
 
   -- what is to be judged: the table, or the new default where none is wished, and the steps
-  abbrev pub judged-under : Table
-  judged-under = cond (eqb with-table 0) new_default table
+  abbrev pub judged_under : Table
+  judged_under = cond (eqb with_table 0) new_default table
 
   abbrev pub steps : List Reading
   steps = readings_by codes amounts
 
-  answered : answer ≡ written_for with-table table codes amounts before
+  answered : answer ≡ written_for with_table table codes amounts before
   answered = rw (call.0, call.1, call.2, call.3)
 
-  pub munasirel_write_reads_back : number ≡ 0 → Stands judged-under steps answer.length before after
+  pub munasirel_write_reads_back : number ≡ 0 → Stands judged_under steps answer.length before after
   munasirel_write_reads_back z =
-      subst (λ t. Stands t steps answer.length before after) (by_wish (eqb with-table 0) table)
-      (reads_back (wished (wish_of with-table table)) codes amounts before after answer answered call.4 z)
+      subst (λ t. Stands t steps answer.length before after) (by_wish (eqb with_table 0) table)
+      (reads_back (wished (wish_of with_table table)) codes amounts before after answer answered call.4 z)
 
   -- the table that is written is the file's
-  module _ (f : List ℕ) (t : TakenApart f codes amounts) (e : judged-under ≡ table_in f) where
-    its_table : wished (wish_of with-table table) ≡ table_in f
-    its_table = by_wish (eqb with-table 0) table ∙ e
+  module _ (f : List ℕ) (t : TakenApart f codes amounts) (e : judged_under ≡ table_in f) where
+    its_table : wished (wish_of with_table table) ≡ table_in f
+    its_table = by_wish (eqb with_table 0) table ∙ e
 
     pub munasirel_write_gives_the_file_back : ¬ OtherEntries f → length f ≤ length before → StandsAgain f answer before after
     munasirel_write_gives_the_file_back =
-        gives_the_file_back (wished (wish_of with-table table)) codes amounts before after answer answered call.4 f t its_table
+        gives_the_file_back (wished (wish_of with_table table)) codes amounts before after answer answered call.4 f t its_table
 
     pub munasirel_write_gives_the_file_in_eighteen :
         OtherEntries f → long_in_eighteen f ≤ length before → StandsInEighteen f answer before after
     munasirel_write_gives_the_file_in_eighteen =
-        gives_the_file_in_eighteen (wished (wish_of with-table table)) codes amounts before after answer answered call.4 f t its_table
+        gives_the_file_in_eighteen (wished (wish_of with_table table)) codes amounts before after answer answered call.4 f t its_table
 
   -- where none is wished
-  module _ (none : with-table ≡ 0) where
-    its_wish : wish_of with-table table ≡ NoTable
+  module _ (none : with_table ≡ 0) where
+    its_wish : wish_of with_table table ≡ NoTable
     its_wish = ap (λ k. wish_of k table) none
 
     its_answer : answer ≡ written_of new_default codes amounts (length before)
@@ -128,25 +128,25 @@ module _
   abbrev pub bytes : List ℕ
   bytes = take answer.length after
 
-  judged : number ≡ 0 → verdict_of bytes ≡ of_run (run judged-under start steps)
-  judged z = judged_as_given judged-under steps bytes (munasirel_write_reads_back z).file
+  judged : number ≡ 0 → verdict_of bytes ≡ of_run (run judged_under start steps)
+  judged z = judged_as_given judged_under steps bytes (munasirel_write_reads_back z).file
 
   pub munasirel_judge_of_what_was_written :
       number ≡ 0
       → (κs' : Lfts 1) (lent : Args judge_call.signature κs') (r : ℕ) (left' : AtExit judge_call.ended κs')
-      → judge_reads.Post κs' lent r left' → lent.0.now ≡ bytes → r ≡ (run judged-under start steps).number
+      → judge_reads.Post κs' lent r left' → lent.0.now ≡ bytes → r ≡ (run judged_under start steps).number
   munasirel_judge_of_what_was_written z κs' lent r left' said e =
       said ∙ ap (λ f. (verdict_of f).number) e ∙ ap (λ (v : Verdict). v.number) (judged z)
 
   pub munasirel_verdict_of_what_was_written :
       number ≡ 0
       → (κs' : Lfts 1) (lent : Args verdict_call.signature κs') (v : Verdict) (left' : AtExit verdict_call.ended κs')
-      → verdict_reads.Post κs' lent v left' → lent.0.now ≡ bytes → v ≡ of_run (run judged-under start steps)
+      → verdict_reads.Post κs' lent v left' → lent.0.now ≡ bytes → v ≡ of_run (run judged_under start steps)
   munasirel_verdict_of_what_was_written z κs' lent v left' said e = said ∙ ap verdict_of e ∙ judged z
 
   -- where none is wished and the old default accepts the list: it is accepted, with the same count and the same end
   pub munasirel_accepted_for_none :
-      number ≡ 0 → with-table ≡ 0 → (run by_old_default start steps).number ≡ 0
+      number ≡ 0 → with_table ≡ 0 → (run by_old_default start steps).number ≡ 0
       → (κs' : Lfts 1) (lent : Args verdict_call.signature κs') (v : Verdict) (left' : AtExit verdict_call.ended κs')
       → verdict_reads.Post κs' lent v left' → lent.0.now ≡ bytes → v ≡ of_run (run by_old_default start steps)
   munasirel_accepted_for_none z none a κs' lent v left' said e =
@@ -155,7 +155,7 @@ module _
       ∙ ap of_run (accepted_by_the_new_default steps a)
 
   pub munasirel_judge_accepts_for_none :
-      number ≡ 0 → with-table ≡ 0 → (run by_old_default start steps).number ≡ 0
+      number ≡ 0 → with_table ≡ 0 → (run by_old_default start steps).number ≡ 0
       → (κs' : Lfts 1) (lent : Args judge_call.signature κs') (r : ℕ) (left' : AtExit judge_call.ended κs')
       → judge_reads.Post κs' lent r left' → lent.0.now ≡ bytes → r ≡ 0
   munasirel_judge_accepts_for_none z none a κs' lent r left' said e =
@@ -167,6 +167,6 @@ module _
   pub munasirel_table_of_what_was_written :
       number ≡ 0
       → (κs' : Lfts 1) (lent : Args table_call.signature κs') (t : Table) (left' : AtExit table_call.ended κs')
-      → table_reads.Post κs' lent t left' → lent.0.now ≡ bytes → t ≡ judged-under
+      → table_reads.Post κs' lent t left' → lent.0.now ≡ bytes → t ≡ judged_under
   munasirel_table_of_what_was_written z κs' lent t left' said e =
       said ∙ ap table_in e ∙ (munasirel_write_reads_back z).file.table

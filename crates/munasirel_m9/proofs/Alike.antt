@@ -16,8 +16,8 @@ use Rattle.manual.specs.declared.Variables.{Variables}
 use Rattle.manual.specs.declared.Moved.{Moved}
 use Rattle.manual_agreement.specs.Agreement.{Reads}
 use Rattle.manual_agreement.proofs.Joined.{Joined}
-use Rattle.manual_agreement.proofs.Agreement.{Together, at-start, one_reading}
-use Rattle.munasirel_m9.specs.contracts.munasirel_m9_start as m9-start
+use Rattle.manual_agreement.proofs.Agreement.{Together, at_start, one_reading}
+use Rattle.munasirel_m9.specs.contracts.munasirel_m9_start as m9_start
 use Rattle.munasirel_m9.proofs.munasirel_m9_start.Reads as m9_start_reads
 use Rattle.munasirel_m9.specs.contracts.munasirel_m9_advance as m9_advance
 use Rattle.munasirel_m9.proofs.munasirel_m9_advance.Reads as m9_advance_reads
@@ -49,7 +49,7 @@ pub record Called (v : Variables) (s : State) (t : Table) (b : Bytes) (m : Moved
 -- what a host holds after any calls from the starts on, be they accepted or refused: the variables of `munasirel_m9_start` and a state
 -- of zeros at first
 pub data Advanced : Variables → State → Type 0 where
-  started : (κs : Lfts 0) (v : Variables) (at : AtExit m9-start.ended κs) → m9_start_reads.Post κs tt v at → Advanced v start
+  started : (κs : Lfts 0) (v : Variables) (at : AtExit m9_start.ended κs) → m9_start_reads.Post κs tt v at → Advanced v start
   advanced :
       (v : Variables) (s : State) → Advanced v s → (t : Table) (b : Bytes) (m : Moved) (number over : ℕ) (s' : State)
       → Called v s t b m number over s' → Advanced m.variables s'
@@ -92,7 +92,7 @@ module _ (v : Variables) (s : State) (t : Table) (b : Bytes) (m : Moved) (number
   }
 
 joined : {v : Variables} {s : State} → Advanced v s → Joined v s
-joined (started κs v at p) = subst (λ (x : Variables). Joined x start) (sym p) at-start
+joined (started κs v at p) = subst (λ (x : Variables). Joined x start) (sym p) at_start
 joined (advanced v s a t b m number over s' c) = joined_again v s t b m number over s' c (joined a)
 
 pub every_record_is_answered_alike :

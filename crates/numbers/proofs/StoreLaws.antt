@@ -30,8 +30,8 @@ sets_out l i [] h = refl
 sets_out l i (v ∷ vs) h = ap (λ m. sets m (suc i) vs) (set_out l i v h) ∙ sets_out l (suc i) vs (omega arith)
 
 -- at the start of a list that has room
-pub at-start : (l vs : List ℕ) (n : ℕ) → length vs ≡ n → n ≤ length l → sets l 0 vs ≡ vs ++ drop n l
-at-start l vs n e h = sets-eq vs l 0 (omega arith) ∙ ap (λ k. vs ++ drop k l) (zero-add (length vs) ∙ e)
+pub at_start : (l vs : List ℕ) (n : ℕ) → length vs ≡ n → n ≤ length l → sets l 0 vs ≡ vs ++ drop n l
+at_start l vs n e h = sets-eq vs l 0 (omega arith) ∙ ap (λ k. vs ++ drop k l) (zero-add (length vs) ∙ e)
 
 -- two stores, of a number's two bytes, and one where the second lies behind the end
 pub two_stores : (l : List ℕ) (i a b : ℕ) → set (set l i a) (i + 1) b ≡ sets l i (a ∷ b ∷ [])

@@ -38,8 +38,8 @@ otherwise v f cases i n each p l h r =
     (either (has cases p) (eqb v (f p)) (from (λ k. T (has cases k || eqb v (f k))) i n each p l h))
 
 -- done, error, and past the table: no column says anything
-pub past-working : (f : Row → ℕ) (p : ℕ) → 22 ≤ p → f (row 0 0 0) ≡ f (row_of p)
-past-working f p h =
+pub past_working : (f : Row → ℕ) (p : ℕ) → 22 ≤ p → f (row 0 0 0) ≡ f (row_of p)
+past_working f p h =
     elim (dec_lt p 24) [
       | yes l ↦ from (λ k. f (row 0 0 0) ≡ f (row_of k)) 22 2 (refl, (refl, tt)) p h l
       | no l ↦ ap f (sym (get_or-eq_default rows (row 0 0 0) {n = p} (omega arith)))

@@ -24,17 +24,17 @@ clutch_of κs a x y at at' p q = p ∙ sym q
 pub order_of : Determined order_of_reads.Post
 order_of κs a x y at at' p q = p ∙ sym q
 
-pub device-entry : Determined device_entry_reads.Post
-device-entry κs a x y at at' p q = p ∙ sym q
+pub device_entry : Determined device_entry_reads.Post
+device_entry κs a x y at at' p q = p ∙ sym q
 
-pub phase-entry : Determined phase_entry_reads.Post
-phase-entry κs a x y at at' p q = p ∙ sym q
+pub phase_entry : Determined phase_entry_reads.Post
+phase_entry κs a x y at at' p q = p ∙ sym q
 
-pub device-limit : Determined device_limit_reads.Post
-device-limit κs a x y at at' p q = p ∙ sym q
+pub device_limit : Determined device_limit_reads.Post
+device_limit κs a x y at at' p q = p ∙ sym q
 
-pub phase-limit : Determined phase_limit_reads.Post
-phase-limit κs a x y at at' p q = p ∙ sym q
+pub phase_limit : Determined phase_limit_reads.Post
+phase_limit κs a x y at at' p q = p ∙ sym q
 
 pub latest_take : Determined latest_take_reads.Post
 latest_take κs a x y at at' p q = p ∙ sym q

@@ -24,8 +24,8 @@ pub orders : (p : ℕ) → p < 24 → order_of p < 7
 orders = below _ 24 (omega arith)
 
 -- a phase leads to phases that are listed
-pub next-listed : (p : ℕ) → p < 24 → next_of p ≤ 23
-next-listed = below _ 24 (omega arith)
+pub next_listed : (p : ℕ) → p < 24 → next_of p ≤ 23
+next_listed = below _ 24 (omega arith)
 
 pub clutch_listed : (p : ℕ) → p < 24 → clutch_of p ≤ 23
 clutch_listed = below _ 24 (omega arith)

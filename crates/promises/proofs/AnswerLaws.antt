@@ -25,14 +25,14 @@ use Rattle.shift.specs.declared.Reading.TheVariants.{Means, WrongCode, WrongAmou
 use Rattle.shift.specs.declared.Answer.{Answer}
 use Rattle.shift.specs.Answers.{reading, guard, led, excess, answer, judged, admitting}
 use Rattle.shift.specs.Refusals.{code_of, amount_of, Reads}
-use Rattle.shift.proofs.Refusals.{a-code, reads}
+use Rattle.shift.proofs.Refusals.{a_code, reads}
 use Rattle.promises.specs.Effects.{Effect}
 use Rattle.promises.specs.Refusals.{record_refusals, refusals}
 use Rattle.promises.specs.HowFar.{HowFar}
 use Rattle.promises.specs.Answered.{Answered}
 use Rattle.promises.proofs.Permitted.{permitted}
 use Rattle.promises.proofs.EffectLaws.{effects}
-use Rattle.promises.proofs.RefusalLaws.{no_request, never-early, first-refusal}
+use Rattle.promises.proofs.RefusalLaws.{no_request, never_early, first_refusal}
 use Rattle.promises.proofs.ExcessLaws.{nothing, how_far, no_other_excess}
 
 -- ---- number, excess and state of an answer, by the broken rule k and the guard's g
@@ -119,7 +119,7 @@ module _ (t : Table) (s : State) (code middle amount : ℕ) where
       let r = reading code middle amount in
       let over = excess t s r (guard t s r) in
       let read = reads middle amount code in record {
-        first = numbered over (led s r) s (broken_rule t) (guard t s r) (record_refusals t s code middle amount) (admitted_in_the_document's_words t) (first-refusal t s code middle amount);
+        first = numbered over (led s r) s (broken_rule t) (guard t s r) (record_refusals t s code middle amount) (admitted_in_the_document's_words t) (first_refusal t s code middle amount);
         how_far = far over (led s r) s t code amount (broken_rule t) (guard t s r) (how_far t s code middle amount r read);
         refused = given_back over (led s r) s (broken_rule t) (guard t s r);
         accepted = λ z.
@@ -185,7 +185,7 @@ module _ (t : Table) (s : State) (middle amount number : ℕ) where
   pub of_a_tick : FirstOf (refusals t s 12 middle amount) number → OneOf (0 ∷ 4 ∷ 6 ∷ 7 ∷ 13 ∷ 12 ∷ 11 ∷ []) number
   of_a_tick =
       kept (4 ∷ 6 ∷ 7 ∷ 13 ∷ 12 ∷ 11 ∷ []) (refusals t s 12 middle amount) number
-      (inl tt, (inr (a-code 12 (omega arith) (omega arith)), (inl tt, (inl tt, (inr (no_request t s amount 12 (omega arith)), (inr (never-early t s amount 12 (omega arith)), (inr (λ h. let e = h.0 in omega arith), (inl tt, (inl tt, (inl tt, tt))))))))))
+      (inl tt, (inr (a_code 12 (omega arith) (omega arith)), (inl tt, (inl tt, (inr (no_request t s amount 12 (omega arith)), (inr (never_early t s amount 12 (omega arith)), (inr (λ h. let e = h.0 in omega arith), (inl tt, (inl tt, (inl tt, tt))))))))))
 
   pub of_another_step :
       (code : ℕ) → ¬ (code ≡ 12) → FirstOf (refusals t s code middle amount) number

@@ -36,40 +36,40 @@ record Same (p old box : ℕ) : Type 0 where
 -- the old box beside today's state, whose box stands by phase
 record Beside (old : ℕ) (s : State) : Type 0 where
   holds : Holds (listed s)
-  old-holds : T (leb old 1)
+  old_holds : T (leb old 1)
   stands : Stands s.phase s.gear_box
   same : Same s.phase old s.gear_box
 
 -- ---- the guard looks at the box at rest alone
 module _ (t : Table) (old : ℕ) (s : State) (b : Beside old s) where
-  same-side : (side : ℕ) → first (rests_in (boxed old s) side) ≡ first (rests_in s side)
-  same-side side =
+  same_side : (side : ℕ) → first (rests_in (boxed old s) side) ≡ first (rests_in s side)
+  same_side side =
       case (eqb s.phase 0)
       (λ e. rw (b.same.at_rest (eqb-true s.phase 0 e)))
       (λ e. rw e)
 
-  same-checks : (r : Reading) → first (checks_of (allowed t (boxed old s)) r) ≡ first (checks_of (allowed t s) r)
-  same-checks (Means FromNeutral) = same-side 0
-  same-checks (Means GearToGear) = same-side 1
-  same-checks (Means ToNeutral) = same-side 1
-  same-checks (Means Deliver) = refl
-  same-checks (Means DeviceGood) = refl
-  same-checks (Means DeviceFailed) = refl
-  same-checks (Means EngineWaits) = refl
-  same-checks (Means Take) = refl
-  same-checks (Means AskClutch) = refl
-  same-checks (Means RaiseError) = refl
-  same-checks (Means Finish) = refl
-  same-checks (Means (Tick n)) = refl
-  same-checks (Means Reset) = refl
-  same-checks WrongCode = refl
-  same-checks WrongAmount = refl
+  same_checks : (r : Reading) → first (checks_of (allowed t (boxed old s)) r) ≡ first (checks_of (allowed t s) r)
+  same_checks (Means FromNeutral) = same_side 0
+  same_checks (Means GearToGear) = same_side 1
+  same_checks (Means ToNeutral) = same_side 1
+  same_checks (Means Deliver) = refl
+  same_checks (Means DeviceGood) = refl
+  same_checks (Means DeviceFailed) = refl
+  same_checks (Means EngineWaits) = refl
+  same_checks (Means Take) = refl
+  same_checks (Means AskClutch) = refl
+  same_checks (Means RaiseError) = refl
+  same_checks (Means Finish) = refl
+  same_checks (Means (Tick n)) = refl
+  same_checks (Means Reset) = refl
+  same_checks WrongCode = refl
+  same_checks WrongAmount = refl
 
-  same-guard : (r : Reading) → guard t (boxed old s) r ≡ guard t s r
-  same-guard r =
+  same_guard : (r : Reading) → guard t (boxed old s) r ≡ guard t s r
+  same_guard r =
       let h = b.holds in
-      sym (left_to_check t (boxed old s) (h.0, (h.1.0, (b.old-holds, tt))) r)
-      ∙ same-checks r
+      sym (left_to_check t (boxed old s) (h.0, (h.1.0, (b.old_holds, tt))) r)
+      ∙ same_checks r
       ∙ left_to_check t s h r
 
 -- ---- the old box after a step
@@ -77,22 +77,22 @@ abbrev next : ℕ → State → Reading → ℕ
 next old s r = (led_before (boxed old s) r).gear_box
 
 -- what the old rules lead to is today's state with the old box
-same-led : (old : ℕ) (s : State) (r : Reading) → led_before (boxed old s) r ≡ boxed (next old s r) (led s r)
-same-led old s (Means FromNeutral) = refl
-same-led old s (Means GearToGear) = refl
-same-led old s (Means ToNeutral) = refl
-same-led old s (Means Deliver) = refl
-same-led old s (Means DeviceGood) = refl
-same-led old s (Means DeviceFailed) = refl
-same-led old s (Means EngineWaits) = refl
-same-led old s (Means Take) = refl
-same-led old s (Means AskClutch) = refl
-same-led old s (Means RaiseError) = refl
-same-led old s (Means Finish) = refl
-same-led old s (Means (Tick n)) = refl
-same-led old s (Means Reset) = refl
-same-led old s WrongCode = refl
-same-led old s WrongAmount = refl
+same_led : (old : ℕ) (s : State) (r : Reading) → led_before (boxed old s) r ≡ boxed (next old s r) (led s r)
+same_led old s (Means FromNeutral) = refl
+same_led old s (Means GearToGear) = refl
+same_led old s (Means ToNeutral) = refl
+same_led old s (Means Deliver) = refl
+same_led old s (Means DeviceGood) = refl
+same_led old s (Means DeviceFailed) = refl
+same_led old s (Means EngineWaits) = refl
+same_led old s (Means Take) = refl
+same_led old s (Means AskClutch) = refl
+same_led old s (Means RaiseError) = refl
+same_led old s (Means Finish) = refl
+same_led old s (Means (Tick n)) = refl
+same_led old s (Means Reset) = refl
+same_led old s WrongCode = refl
+same_led old s WrongAmount = refl
 
 -- it is neutral or in gear
 either_way : (b c : Bool) (old : ℕ) → T (leb old 1) → T (leb (cond b (cond c 0 1) old) 1)
@@ -155,8 +155,8 @@ module _ (t : Table) (old : ℕ) (s : State) (b : Beside old s) where
   goes_beside : (r : Reading) → ¬ (r ≡ Means Reset) → guard t s r ≡ 0 → Beside (next old s r) (led s r)
   goes_beside r n z = record {
     holds = stays_listed s r b.holds;
-    old-holds =
-        either_way (eqb (led (boxed old s) r).phase 22 && not (eqb s.phase 22)) (eqb s.phase 19 || eqb s.phase 21) old b.old-holds;
+    old_holds =
+        either_way (eqb (led (boxed old s) r).phase 22 && not (eqb s.phase 22)) (eqb s.phase 19 || eqb s.phase 21) old b.old_holds;
     stands = kept_standing t s b.stands r z;
     same =
         each_step (λ q. ¬ (q ≡ Means Reset) → Same (led s q).phase (next old s q) (led s q).gear_box) t s kept r z n;
@@ -175,7 +175,7 @@ ended old s k d e b = record {
   stage = refl;
   stage_time = refl;
   request_time = refl;
-  failed-phase = refl;
+  failed_phase = refl;
   at_rest = λ e. ap (λ box. boxed box s) (b.same.at_rest e);
   in_22 = λ e. ap (λ box. boxed box s) (b.same.in_22 e);
 }
@@ -193,7 +193,7 @@ goes_on old s zero d e xs ys b f =
       stage = a.stage;
       stage_time = a.stage_time;
       request_time = a.request_time;
-      failed-phase = a.failed-phase;
+      failed_phase = a.failed_phase;
       at_rest = a.at_rest;
       in_22 = a.in_22;
     }
@@ -204,7 +204,7 @@ from_beside :
     → Agree (run_by led_before t (boxed old s) rs) (run t s rs)
 from_beside t old s [] b w = ended old s 0 0 0 b
 from_beside t old s (r ∷ rs) b w =
-    rw (same-guard t old s b r, same-led old s r)
+    rw (same_guard t old s b r, same_led old s r)
     (goes_on old s (guard t s r) _ _ (run_by led_before t (boxed (next old s r) (led s r)) rs) (run t (led s r) rs) b
     (λ z. from_beside t (next old s r) (led s r) rs (goes_beside t old s b r w.0 z) w.1))
 
@@ -216,7 +216,7 @@ pub old_and_new_agree :
 old_and_new_agree t rs =
     from_beside t 0 start rs (record {
       holds = (tt, (tt, (tt, tt)));
-      old-holds = tt;
+      old_holds = tt;
       stands = omega arith;
       same = omega arith;
     })

@@ -14,7 +14,7 @@ use Rattle.checks.proofs.Ranges.{from}
 use Rattle.limits.specs.declared.Table.{Table}
 use Rattle.phases.specs.Phases.{order_of, next_of, clutch_of, unfinished}
 use Rattle.phases.specs.ByPhase.{set_phases, release_phases, engine_phases, next_phase, clutch_phase}
-use Rattle.phases.proofs.PhaseLaws.{next-listed, clutch_listed}
+use Rattle.phases.proofs.PhaseLaws.{next_listed, clutch_listed}
 use Rattle.phases.proofs.ByPhaseLaws.{among, each, engine_of, set_in, release_in, next_in, clutch_in}
 use Rattle.shift.specs.declared.State.{State}
 use Rattle.shift.specs.declared.Reading.{Reading}
@@ -91,8 +91,8 @@ module _ (s a b : State) where
   }
 
   module _ (x : Entered s a) (y : Entered s b) (e : a.phase ≡ b.phase) where
-    same-stage : a.phase ≤ 23 → a.stage ≡ b.stage
-    same-stage l =
+    same_stage : a.phase ≤ 23 → a.stage ≡ b.stage
+    same_stage l =
         among (0 ∷ 22 ∷ 23 ∷ []) a.phase
         (λ o. x.none o ∙ sym (y.none (subst (OneOf (0 ∷ 22 ∷ 23 ∷ [])) e o)))
         (λ n.
@@ -101,8 +101,8 @@ module _ (s a b : State) where
         let k : ¬ (a.phase ≡ 23) = λ q. n (inr (inr (inl q))) in
         x.sent (omega arith) ∙ sym (y.sent (omega arith)))
 
-    same-failed : a.failed_phase ≡ b.failed_phase
-    same-failed =
+    same_failed : a.failed_phase ≡ b.failed_phase
+    same_failed =
         case (eqb a.phase 23)
         (λ c. let q = eqb-true a.phase 23 c in x.failed q ∙ sym (y.failed (sym e ∙ q)))
         (λ c. let n = eqb-false a.phase 23 c in x.cleared n ∙ sym (y.cleared (λ q. n (e ∙ q))))
@@ -114,10 +114,10 @@ module _ (s a b : State) where
         g
         e
         (x.phase_time ∙ sym y.phase_time)
-        (same-stage l)
+        (same_stage l)
         (x.stage_time ∙ sym y.stage_time)
         r
-        same-failed
+        same_failed
 
   one_into : (p r : ℕ) → p ≤ 23 → Into p r s a → Into p r s b → a.gear_box ≡ b.gear_box → a ≡ b
   one_into p r l x y = one_entered x.2 y.2 (x.0 ∙ sym y.0) (rw x.0 l) (x.1 ∙ sym y.1)
@@ -147,8 +147,8 @@ module _ (s a b : State) where
       (x.3.failed ∙ sym y.3.failed)
 
 -- ---- a permitted step leads to a state that is so described
-next-begun : (p : ℕ) → 1 ≤ p → p < 22 → 1 ≤ next_of p
-next-begun = from _ 1 21 (omega arith)
+next_begun : (p : ℕ) → 1 ≤ p → p < 22 → 1 ≤ next_of p
+next_begun = from _ 1 21 (omega arith)
 
 clutch_begun : (p : ℕ) → OneOf engine_phases p → 1 ≤ clutch_of p
 clutch_begun = each _ engine_phases (omega arith)
@@ -176,7 +176,7 @@ module _ (t : Table) (s : State) where
   described Take h =
       let p = s.phase in
       let z = h.0 in
-      let g = goes_into (next_of p) s.request_time (box_taken s) s (next-begun p z.0 (omega arith)) in
+      let g = goes_into (next_of p) s.request_time (box_taken s) s (next_begun p z.0 (omega arith)) in
       ((next_in p z.0 (omega arith), g.1, g.2), takes s (effect s Take) z refl)
   described AskClutch h =
       let p = s.phase in
@@ -201,7 +201,7 @@ module _ (t : Table) (s : State) where
       let p = s.phase in
       let z = h.0 in
       let e = next_in p z.0 (omega arith) in
-      let l = next-listed p (omega arith) in
+      let l = next_listed p (omega arith) in
       one_into s a b (next_phase p) s.request_time (omega arith) x.0 y.0 (one_taken s a b x.1 y.1)
   one AskClutch h a b =
       let p = s.phase in

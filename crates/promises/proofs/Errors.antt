@@ -19,7 +19,7 @@ use Rattle.shift.specs.declared.Step.TheVariants.{FromNeutral, GearToGear, ToNeu
 use Rattle.shift.specs.Refusals.{Formed}
 use Rattle.shift.specs.Answers.{checks, guard, led}
 use Rattle.shift.specs.Runs.{Outcome, after, run}
-use Rattle.shift.proofs.Refusals.{a-code}
+use Rattle.shift.proofs.Refusals.{a_code}
 use Rattle.promises.specs.Allowed.{Shifting, Engine}
 use Rattle.promises.specs.Refusals.{placings, ByCode, Misplaced}
 use Rattle.promises.specs.Answered.{Answered}
@@ -58,7 +58,7 @@ module _ (t : Table) (s : State) (code middle amount : ℕ) (e : s.phase ≡ 23)
       (λ a. absurd (a.0 admitted))
       (λ a.
       ⊎_elim
-      (λ b. absurd (a-code code l (omega arith) b.0))
+      (λ b. absurd (a_code code l (omega arith) b.0))
       (λ b.
       ⊎_elim
       (λ c. absurd (c.0 formed))
@@ -78,7 +78,7 @@ pub record Stopped (s s' : State) : Type 0 where
   pub stage : s'.stage ≡ s.stage
   pub stage_time : s'.stage_time ≡ s.stage_time
   pub request_time : s'.request_time ≡ s.request_time
-  pub failed-phase : s'.failed_phase ≡ s.failed_phase
+  pub failed_phase : s'.failed_phase ≡ s.failed_phase
 
 clocked : (s : State) (c : ℕ) → Stopped s (record {
   clock = c;
@@ -97,7 +97,7 @@ clocked s c = record {
   stage = refl;
   stage_time = refl;
   request_time = refl;
-  failed-phase = refl;
+  failed_phase = refl;
 }
 
 still : (s u v : State) → Stopped s u → Stopped u v → Stopped s v
@@ -108,7 +108,7 @@ still s u v x y = record {
   stage = y.stage ∙ x.stage;
   stage_time = y.stage_time ∙ x.stage_time;
   request_time = y.request_time ∙ x.request_time;
-  failed-phase = y.failed-phase ∙ x.failed-phase;
+  failed_phase = y.failed_phase ∙ x.failed_phase;
 }
 
 module _ (t : Table) (s : State) (e : s.phase ≡ 23) where

@@ -86,13 +86,13 @@ module _ (t : Table) (s : State) (rs : List Reading) where
       let m : ¬ (b.count < a.count) = not_before b a y x in
       omega arith
 
-  same-state : (a b : Outcome) → Exact t s rs a → Exact t s rs b → a.state ≡ b.state
-  same-state a b x y = x.state ∙ ap (λ n. leads s (take n rs)) (same_count a b x y) ∙ sym y.state
+  same_state : (a b : Outcome) → Exact t s rs a → Exact t s rs b → a.state ≡ b.state
+  same_state a b x y = x.state ∙ ap (λ n. leads s (take n rs)) (same_count a b x y) ∙ sym y.state
 
   pub only : (a b : Outcome) → Exact t s rs a → Exact t s rs b → a ≡ b
   only a b x y =
       let c = same_count a b x y in
-      let z = same-state a b x y in
+      let z = same_state a b x y in
       let k = same_number a b x y c z in
       let e : a.excess ≡ b.excess =
       x.over

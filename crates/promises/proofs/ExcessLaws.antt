@@ -29,7 +29,7 @@ use Rattle.promises.specs.Allowed.{Shifting, OpenOrClose}
 use Rattle.promises.specs.Refusals.{TooEarly, PastClock, PastStage, PastPhase}
 use Rattle.promises.specs.HowFar.{at_clock, EarlyBy, LateBy, PastBy, HowFar}
 use Rattle.promises.proofs.RefusalLaws.{by_test, behind, good_too_early, failed_too_early, ask_too_early}
-use Rattle.promises.proofs.PlaceLaws.{within_ex, within_report, within_stage, within_phase, too_early, too_late, in_channel_time, in_device_time, past-stage, in_phase_time, past-phase}
+use Rattle.promises.proofs.PlaceLaws.{within_ex, within_report, within_stage, within_phase, too_early, too_late, in_channel_time, in_device_time, past_stage, in_phase_time, past_phase}
 
 abbrev timed : List ℕ
 timed = 9 ∷ 10 ∷ 11 ∷ 12 ∷ 13 ∷ []
@@ -40,8 +40,8 @@ module _ (t : Table) (s : State) (code amount : ℕ) where
   nothing k l = record {
     too_early = λ e. absurd (omega arith);
     too_late = λ e. absurd (omega arith);
-    past-phase = λ e. absurd (omega arith);
-    past-stage = λ e. absurd (omega arith);
+    past_phase = λ e. absurd (omega arith);
+    past_stage = λ e. absurd (omega arith);
     past_clock = λ e. absurd (omega arith);
     none = λ _. refl;
   }
@@ -60,7 +60,7 @@ module _ (t : Table) (s : State) where
   -- the phase's limit
   by_phase : unfinished s.phase ≡ true → (c n : ℕ) → (phase_bound t s < c + n) ↔ PastPhase t (at_clock c s) 12 n
   by_phase u c n = (
-    λ l. let w = past-phase t (at_clock c s) (c + n) (rw (u, lt-leb (c + n) (phase_bound t s) l) tt) in (refl, w.0, w.1),
+    λ l. let w = past_phase t (at_clock c s) (c + n) (rw (u, lt-leb (c + n) (phase_bound t s) l) tt) in (refl, w.0, w.1),
     λ w.
         elim (dec_lt (phase_bound t s) (c + n)) [
           | yes l ↦ l
@@ -75,7 +75,7 @@ module _ (t : Table) (s : State) where
   -- the channel's or the device's
   by_stage : limited s ≡ true → (c n : ℕ) → (stage_bound t s < c + n) ↔ PastStage t (at_clock c s) 12 n
   by_stage u c n = (
-    λ l. let w = past-stage t (at_clock c s) (c + n) (rw (u, lt-leb (c + n) (stage_bound t s) l) tt) in (refl, w.0, w.1),
+    λ l. let w = past_stage t (at_clock c s) (c + n) (rw (u, lt-leb (c + n) (stage_bound t s) l) tt) in (refl, w.0, w.1),
     λ w.
         elim (dec_lt (stage_bound t s) (c + n)) [
           | yes l ↦ l
@@ -125,8 +125,8 @@ module _ (t : Table) (s : State) where
           then = λ q. let l = q.2 in omega arith;
           behind = λ c l. (refl, w.0, omega arith);
         };
-        past-phase = λ q. absurd (omega arith);
-        past-stage = λ q. absurd (omega arith);
+        past_phase = λ q. absurd (omega arith);
+        past_stage = λ q. absurd (omega arith);
         past_clock = λ q. absurd (omega arith);
         none = λ n. absurd (n (inr (inl refl)));
       }))
@@ -142,8 +142,8 @@ module _ (t : Table) (s : State) where
       before = λ c m. (same c).0 (omega arith);
     };
     too_late = λ q. absurd (omega arith);
-    past-phase = λ q. absurd (omega arith);
-    past-stage = λ q. absurd (omega arith);
+    past_phase = λ q. absurd (omega arith);
+    past_stage = λ q. absurd (omega arith);
     past_clock = λ q. absurd (omega arith);
     none = λ n. absurd (n (inl refl));
   }
@@ -191,8 +191,8 @@ module _ (t : Table) (s : State) where
     past_13 e = record {
       too_early = λ q. absurd (omega arith);
       too_late = λ q. absurd (omega arith);
-      past-phase = λ q. absurd (omega arith);
-      past-stage = λ q. absurd (omega arith);
+      past_phase = λ q. absurd (omega arith);
+      past_stage = λ q. absurd (omega arith);
       past_clock = λ _. past_by (λ c m. PastClock (at_clock c s) 12 m) 4294967295 now (by_clock t s) (nleb→lt now 4294967295 e);
       none = λ k. absurd (k (inr (inr (inr (inr (inl refl))))));
     }
@@ -202,8 +202,8 @@ module _ (t : Table) (s : State) where
         let l = held (limited s) now (stage_bound t s) e in record {
           too_early = λ q. absurd (omega arith);
           too_late = λ q. absurd (omega arith);
-          past-phase = λ q. absurd (omega arith);
-          past-stage = λ _. past_by (λ c m. PastStage t (at_clock c s) 12 m) (stage_bound t s) now (by_stage t s l.0) l.1;
+          past_phase = λ q. absurd (omega arith);
+          past_stage = λ _. past_by (λ c m. PastStage t (at_clock c s) 12 m) (stage_bound t s) now (by_stage t s l.0) l.1;
           past_clock = λ q. absurd (omega arith);
           none = λ k. absurd (k (inr (inr (inr (inl refl)))));
         }
@@ -213,8 +213,8 @@ module _ (t : Table) (s : State) where
         let l = held (unfinished s.phase) now (phase_bound t s) e in record {
           too_early = λ q. absurd (omega arith);
           too_late = λ q. absurd (omega arith);
-          past-phase = λ _. past_by (λ c m. PastPhase t (at_clock c s) 12 m) (phase_bound t s) now (by_phase t s l.0) l.1;
-          past-stage = λ q. absurd (omega arith);
+          past_phase = λ _. past_by (λ c m. PastPhase t (at_clock c s) 12 m) (phase_bound t s) now (by_phase t s l.0) l.1;
+          past_stage = λ q. absurd (omega arith);
           past_clock = λ q. absurd (omega arith);
           none = λ k. absurd (k (inr (inr (inl refl))));
         }
@@ -256,8 +256,8 @@ module _ (t : Table) (s : State) where
 
 -- ---- and nothing else is
 module _ (t : Table) (s : State) (code : ℕ) (d e : ℕ) where
-  same-early : EarlyBy t s code d → EarlyBy t s code e → d ≡ e
-  same-early a b =
+  same_early : EarlyBy t s code d → EarlyBy t s code e → d ≡ e
+  same_early a b =
       let l : ¬ (d < e) = λ h. a.then (b.before (s.clock + d) (omega arith)) in
       let m : ¬ (e < d) = λ h. b.then (a.before (s.clock + e) (omega arith)) in
       omega arith
@@ -270,8 +270,8 @@ module _ (t : Table) (s : State) (code : ℕ) (d e : ℕ) where
       let m : ¬ (e < d) = λ h. b.then (a.behind (s.clock - e) (omega arith)) in
       omega arith
 
-same-past : (Past : ℕ → ℕ → Type 0) (now d e : ℕ) → PastBy Past now d → PastBy Past now e → d ≡ e
-same-past Past now d e a b =
+same_past : (Past : ℕ → ℕ → Type 0) (now d e : ℕ) → PastBy Past now d → PastBy Past now e → d ≡ e
+same_past Past now d e a b =
     let p = a.no_more in
     let q = b.no_more in
     let l : ¬ (d < e) = λ h. a.kept (now - d) 0 (omega arith) (b.passed (now - d) 0 (omega arith)) in
@@ -282,10 +282,10 @@ pub no_other_excess :
     (t : Table) (s : State) (code amount k d e : ℕ) → HowFar t s code amount k d → HowFar t s code amount k e → d ≡ e
 no_other_excess t s code amount k d e a b =
     among timed k
-    (⊎_elim (λ q. same-early t s code d e (a.too_early q) (b.too_early q))
+    (⊎_elim (λ q. same_early t s code d e (a.too_early q) (b.too_early q))
     (⊎_elim (λ q. same_late t s code d e (a.too_late q) (b.too_late q))
-    (⊎_elim (λ q. same-past _ _ d e (a.past-phase q) (b.past-phase q))
-    (⊎_elim (λ q. same-past _ _ d e (a.past-stage q) (b.past-stage q))
-    (⊎_elim (λ q. same-past _ _ d e (a.past_clock q) (b.past_clock q))
+    (⊎_elim (λ q. same_past _ _ d e (a.past_phase q) (b.past_phase q))
+    (⊎_elim (λ q. same_past _ _ d e (a.past_stage q) (b.past_stage q))
+    (⊎_elim (λ q. same_past _ _ d e (a.past_clock q) (b.past_clock q))
     (λ q. absurd q))))))
     (λ n. a.none n ∙ sym (b.none n))

@@ -27,33 +27,33 @@ use Rattle.promises.proofs.Runs.{each_step, went_on}
 
 module _ (t u : Table) (l : NowhereTighter t u) where
   -- the limits by order, and of a tick by stage
-  device-limits : (o : ℕ) → o < 7 → device_limit t o ≤ device_limit u o
-  device-limits = below _ 7 (omega arith)
+  device_limits : (o : ℕ) → o < 7 → device_limit t o ≤ device_limit u o
+  device_limits = below _ 7 (omega arith)
 
-  phase-limits : (o : ℕ) → o < 7 → phase_limit t o ≤ phase_limit u o
-  phase-limits = below _ 7 (omega arith)
+  phase_limits : (o : ℕ) → o < 7 → phase_limit t o ≤ phase_limit u o
+  phase_limits = below _ 7 (omega arith)
 
   latest_takes : (o : ℕ) → o < 7 → latest_take t o ≤ latest_take u o
   latest_takes = let e = later_takes t u l in below _ 7 (omega arith)
 
-  earliest-asks : (o : ℕ) → o < 7 → earliest_ask u o ≤ earliest_ask t o
-  earliest-asks = let e = sooner_asks t u l in below _ 7 (omega arith)
+  earliest_asks : (o : ℕ) → o < 7 → earliest_ask u o ≤ earliest_ask t o
+  earliest_asks = let e = sooner_asks t u l in below _ 7 (omega arith)
 
-  plain-delays : (o : ℕ) → o < 7 → plain_delay u o ≤ plain_delay t o
-  plain-delays = let e = sooner_reports t u l in below _ 7 (omega arith)
+  plain_delays : (o : ℕ) → o < 7 → plain_delay u o ≤ plain_delay t o
+  plain_delays = let e = sooner_reports t u l in below _ 7 (omega arith)
 
-  error-delays : (o : ℕ) → o < 7 → error_delay u o ≤ error_delay t o
-  error-delays = let e = sooner_reports t u l in below _ 7 (omega arith)
+  error_delays : (o : ℕ) → o < 7 → error_delay u o ≤ error_delay t o
+  error_delays = let e = sooner_reports t u l in below _ 7 (omega arith)
 
   -- a report that is not before a bound is not before a lesser one
   reports : (b : Bool) (x y c : ℕ) → y ≤ x → T (leb (cond b x 0) c) → T (leb (cond b y 0) c)
   reports true x y c h k = omega (arith, tests)
   reports false x y c h k = k
 
-  stage-limits :
+  stage_limits :
       (d e : ℕ) → d ≤ e → (g : ℕ) → g < 6
       → get_or (0 ∷ t.channel_dl ∷ d ∷ t.channel_dl ∷ []) g 0 ≤ get_or (0 ∷ u.channel_dl ∷ e ∷ u.channel_dl ∷ []) g 0
-  stage-limits d e h = below _ 6 (omega arith)
+  stage_limits d e h = below _ 6 (omega arith)
 
   module _ (s : State) where
     -- what the first table checks of a step, the second checks
@@ -64,12 +64,12 @@ module _ (t u : Table) (l : NowhereTighter t u) where
     kept Deliver h = h
     kept DeviceGood h =
         let o = orders s.phase (omega (arith, tests)) in
-        let d = plain-delays (order_of s.phase) o in
+        let d = plain_delays (order_of s.phase) o in
         let e = reports (clutch_order s.phase) (good_bound t s) (good_bound u s) s.clock (omega arith) h.1.1.1.1.1.1.0 in
         omega (arith, tests)
     kept DeviceFailed h =
         let o = orders s.phase (omega (arith, tests)) in
-        let d = error-delays (order_of s.phase) o in
+        let d = error_delays (order_of s.phase) o in
         let e = reports (clutch_order s.phase) (failed_bound t s) (failed_bound u s) s.clock (omega arith) h.1.1.1.1.1.1.1.0 in
         omega (arith, tests)
     kept EngineWaits h = h
@@ -78,22 +78,22 @@ module _ (t u : Table) (l : NowhereTighter t u) where
         omega (arith, tests, latest_takes (order_of s.phase) o)
     kept AskClutch h =
         let o = orders s.phase (omega (arith, tests)) in
-        omega (arith, tests, earliest-asks (order_of s.phase) o)
+        omega (arith, tests, earliest_asks (order_of s.phase) o)
     kept RaiseError h = h
     kept Finish h = h
     kept (Tick n) h =
         let o = orders s.phase (omega (arith, tests)) in
         let d = device_limit t (order_of s.phase) in
         let e = device_limit u (order_of s.phase) in
-        let g = stage-limits d e (device-limits (order_of s.phase) o) s.stage (omega (arith, tests)) in
-        omega (arith, tests, phase-limits (order_of s.phase) o)
+        let g = stage_limits d e (device_limits (order_of s.phase) o) s.stage (omega (arith, tests)) in
+        omega (arith, tests, phase_limits (order_of s.phase) o)
     kept Reset h = h
 
     accepts : (r : Reading) → guard t s r ≡ 0 → guard u s r ≡ 0
     accepts = each_step (λ r. guard u s r ≡ 0) t s (λ x h. holds→first (checks u s (Means x)) (kept x h))
 
-  pub same-run : (s : State) (rs : List Reading) → (run t s rs).number ≡ 0 → run u s rs ≡ run t s rs
-  same-run s [] e = refl
-  same-run s (r ∷ rs) e =
+  pub same_run : (s : State) (rs : List Reading) → (run t s rs).number ≡ 0 → run u s rs ≡ run t s rs
+  same_run s [] e = refl
+  same_run s (r ∷ rs) e =
       let w = went_on (guard t s r) _ s (run t (led s r) rs) e in
-      rw (w.0, accepts s r w.0, same-run (led s r) rs w.1)
+      rw (w.0, accepts s r w.0, same_run (led s r) rs w.1)

@@ -13,7 +13,7 @@ use contract.Lifetimes.{Lfts}
 use denote.Triple.Entry.{Args}
 use denote.Triple.Clauses.{AtExit}
 use Rattle.checks.specs.Checks.{Check, first, numbered}
-use Rattle.checks.proofs.Checks.{Holds, first→holds, holds→first, first_alone, first-left, first_right}
+use Rattle.checks.proofs.Checks.{Holds, first→holds, holds→first, first_alone, first_left, first_right}
 use Rattle.checks.proofs.Ranges.{below}
 use Rattle.checks.proofs.Tests.{tests, case, passed, left}
 use Rattle.limits.specs.declared.Table.{Table}
@@ -45,7 +45,7 @@ module _ (t : Table) (z : NoDelays t) where
   plain_delay_lem : (o : ℕ) → plain_delay t o ≡ 0
   plain_delay_lem o =
       let a = z.plain_open in
-      let b = z.plain-close in
+      let b = z.plain_close in
       elim (dec_lt o 5) [
         | yes h ↦ below (λ k. plain_delay t k ≡ 0) 5 (omega arith) o h
         | no h ↦ sym (no_limit plain_entries t o (omega arith))
@@ -54,18 +54,18 @@ module _ (t : Table) (z : NoDelays t) where
   error_delay_lem : (o : ℕ) → error_delay t o ≡ 0
   error_delay_lem o =
       let a = z.error_open in
-      let b = z.error-close in
+      let b = z.error_close in
       elim (dec_lt o 5) [
         | yes h ↦ below (λ k. error_delay t k ≡ 0) 5 (omega arith) o h
         | no h ↦ sym (no_limit error_entries t o (omega arith))
       ]
 
   module _ (s : State) where
-    good-bound : good_bound t s ≡ s.stage_time
-    good-bound = let e = plain_delay_lem (order_of s.phase) in omega arith
+    good_bound_lem : good_bound t s ≡ s.stage_time
+    good_bound_lem = let e = plain_delay_lem (order_of s.phase) in omega arith
 
-    failed-bound : failed_bound t s ≡ s.stage_time
-    failed-bound = let e = error_delay_lem (order_of s.phase) in omega arith
+    failed_bound_lem : failed_bound t s ≡ s.stage_time
+    failed_bound_lem = let e = error_delay_lem (order_of s.phase) in omega arith
 
     -- ---- a stage time that is not ahead of the clock
     in_time : (bound : ℕ) → bound ≤ s.clock → first (in_report_time s bound) ≡ 0
@@ -74,24 +74,24 @@ module _ (t : Table) (z : NoDelays t) where
         (λ e. rw (e, le-leb bound s.clock l))
         (λ e. rw (e, le-leb 0 s.clock zero-le))
 
-    same-guard : s.stage_time ≤ s.clock → (r : Reading) → guard_before t s r ≡ guard t s r
-    same-guard k (Means FromNeutral) = refl
-    same-guard k (Means GearToGear) = refl
-    same-guard k (Means ToNeutral) = refl
-    same-guard k (Means Deliver) = refl
-    same-guard k (Means DeviceGood) =
-        sym (first_alone (listed s ++ shifts_in s working) (in_report_time s (good_bound t s)) (in_time (good_bound t s) (let e = good-bound in omega arith)))
-    same-guard k (Means DeviceFailed) =
-        sym (first_alone (listed s ++ (shifts_in s working ++ in_device s)) (in_report_time s (failed_bound t s)) (in_time (failed_bound t s) (let e = failed-bound in omega arith)))
-    same-guard k (Means EngineWaits) = refl
-    same-guard k (Means Take) = refl
-    same-guard k (Means AskClutch) = refl
-    same-guard k (Means RaiseError) = refl
-    same-guard k (Means Finish) = refl
-    same-guard k (Means (Tick n)) = refl
-    same-guard k (Means Reset) = refl
-    same-guard k WrongCode = refl
-    same-guard k WrongAmount = refl
+    same_guard : s.stage_time ≤ s.clock → (r : Reading) → guard_before t s r ≡ guard t s r
+    same_guard k (Means FromNeutral) = refl
+    same_guard k (Means GearToGear) = refl
+    same_guard k (Means ToNeutral) = refl
+    same_guard k (Means Deliver) = refl
+    same_guard k (Means DeviceGood) =
+        sym (first_alone (listed s ++ shifts_in s working) (in_report_time s (good_bound t s)) (in_time (good_bound t s) (let e = good_bound_lem in omega arith)))
+    same_guard k (Means DeviceFailed) =
+        sym (first_alone (listed s ++ (shifts_in s working ++ in_device s)) (in_report_time s (failed_bound t s)) (in_time (failed_bound t s) (let e = failed_bound_lem in omega arith)))
+    same_guard k (Means EngineWaits) = refl
+    same_guard k (Means Take) = refl
+    same_guard k (Means AskClutch) = refl
+    same_guard k (Means RaiseError) = refl
+    same_guard k (Means Finish) = refl
+    same_guard k (Means (Tick n)) = refl
+    same_guard k (Means Reset) = refl
+    same_guard k WrongCode = refl
+    same_guard k WrongAmount = refl
 
 -- no step leaves it ahead
 not_ahead : (s : State) → s.stage_time ≤ s.clock → (r : Reading) → (led s r).stage_time ≤ (led s r).clock
@@ -119,15 +119,15 @@ admitted_as_before t z =
     sym (first_alone (numbered 1 older) (numbered 16 (delay_rules t)) (rw none))
 
 -- ---- lists
-same-run :
+same_run :
     (t : Table) → NoDelays t → (s : State) (rs : List Reading) → s.stage_time ≤ s.clock → run_before t s rs ≡ run t s rs
-same-run t z s [] k = refl
-same-run t z s (r ∷ rs) k =
-    ap (λ g. after g (excess t s r g) s (run_before t (led s r) rs)) (same-guard t z s k r)
-    ∙ ap (after (guard t s r) (excess t s r (guard t s r)) s) (same-run t z (led s r) rs (not_ahead s k r))
+same_run t z s [] k = refl
+same_run t z s (r ∷ rs) k =
+    ap (λ g. after g (excess t s r g) s (run_before t (led s r) rs)) (same_guard t z s k r)
+    ∙ ap (after (guard t s r) (excess t s r (guard t s r)) s) (same_run t z (led s r) rs (not_ahead s k r))
 
 pub nothing_changed_for_the_old_fleet : (t : Table) → NoDelays t → (rs : List Reading) → run_before t start rs ≡ run t start rs
-nothing_changed_for_the_old_fleet t z rs = same-run t z start rs (omega arith)
+nothing_changed_for_the_old_fleet t z rs = same_run t z start rs (omega arith)
 
 -- ---- given states
 module _ (t : Table) (z : NoDelays t) (s : State) where
@@ -147,7 +147,7 @@ module _ (t : Table) (z : NoDelays t) (s : State) where
       let a = too_early s bound h.1 (rw w tt) in
       let l = a.1 in
       absurd (n (record { listed = h.0; phase = a.0; stage = h.2; time = omega arith; step = which }))))
-      (λ q. sym (first-left own (in_report_time s bound) (eqb-false (first own) 0 q)))
+      (λ q. sym (first_left own (in_report_time s bound) (eqb-false (first own) 0 q)))
 
   pub as_before : (r : Reading) → ¬ Ahead s r → guard_before t s r ≡ guard t s r
   as_before (Means FromNeutral) n = refl
@@ -156,10 +156,10 @@ module _ (t : Table) (z : NoDelays t) (s : State) where
   as_before (Means Deliver) n = refl
   as_before (Means DeviceGood) n =
       let own = listed s ++ shifts_in s working in
-      kept DeviceGood own (good_bound t s) (good-bound t z s) (λ e. let h = (first→holds 0 own tt e).0 in omega (arith, tests)) (inl refl) n
+      kept DeviceGood own (good_bound t s) (good_bound_lem t z s) (λ e. let h = (first→holds 0 own tt e).0 in omega (arith, tests)) (inl refl) n
   as_before (Means DeviceFailed) n =
       let own = listed s ++ (shifts_in s working ++ in_device s) in
-      kept DeviceFailed own (failed_bound t s) (failed-bound t z s) (λ e. let h = (first→holds 0 own tt e).0 in omega (arith, tests)) (inr refl) n
+      kept DeviceFailed own (failed_bound t s) (failed_bound_lem t z s) (λ e. let h = (first→holds 0 own tt e).0 in omega (arith, tests)) (inr refl) n
   as_before (Means EngineWaits) n = refl
   as_before (Means Take) n = refl
   as_before (Means AskClutch) n = refl
@@ -189,8 +189,8 @@ module _ (t : Table) (z : NoDelays t) (s : State) where
         let h : Holds own = omega (arith, tests) in
         record {
           before = holds→first own h;
-          now = refused_so own (good_bound t s) (good-bound t z s) h o ahead;
-          by = ap (λ b. b - s.clock) (good-bound t z s);
+          now = refused_so own (good_bound t s) (good_bound_lem t z s) h o ahead;
+          by = ap (λ b. b - s.clock) (good_bound_lem t z s);
         }
 
     failed_otherwise : Otherwise (Means DeviceFailed)
@@ -201,8 +201,8 @@ module _ (t : Table) (z : NoDelays t) (s : State) where
         let h : Holds own = omega (arith, tests) in
         record {
           before = holds→first own h;
-          now = refused_so own (failed_bound t s) (failed-bound t z s) h o ahead;
-          by = ap (λ b. b - s.clock) (failed-bound t z s);
+          now = refused_so own (failed_bound t s) (failed_bound_lem t z s) h o ahead;
+          by = ap (λ b. b - s.clock) (failed_bound_lem t z s);
         }
 
   pub otherwise : (r : Reading) → Ahead s r → Otherwise r

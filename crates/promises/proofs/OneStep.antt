@@ -21,14 +21,14 @@ use Rattle.shift.proofs.State.step.Reads as step_reads
 use Rattle.promises.specs.Refusals.{record_refusals, refusals, PastClock, PastStage, PastPhase}
 use Rattle.promises.specs.HowFar.{at_clock, EarlyBy, LateBy, PastBy}
 use Rattle.promises.specs.Answered.{Answered}
-use Rattle.promises.proofs.RefusalLaws.{first-refusal}
+use Rattle.promises.proofs.RefusalLaws.{first_refusal}
 use Rattle.promises.proofs.Errors.{an_error_is_final_until_a_reset}
 use Rattle.promises.proofs.AnswerLaws.{answered, with_its_rule, the_one, of_a_tick, of_another_step}
 
 -- the number of a record, where the table has been tested: the first whose condition holds, and 0 where none does
 pub refused_in_the_document's_words :
     (t : Table) (s : State) (code middle amount : ℕ) → FirstOf (record_refusals t s code middle amount) (guard t s (reading code middle amount))
-refused_in_the_document's_words = first-refusal
+refused_in_the_document's_words = first_refusal
 
 -- ---- whatever the contract of `State::step` allows
 module _
@@ -96,8 +96,8 @@ module _ (t : Table) (s : State) (code middle amount : ℕ) where
       × (n ≡ 13 → Amounts (PastClock s code) amount e)
   the_excess_of_a_tick n e u x =
       let far = x.how_far in (
-        λ q. by_amounts (λ c m. PastPhase t (at_clock c s) code m) s.clock amount e (far.past-phase q),
-        λ q. by_amounts (λ c m. PastStage t (at_clock c s) code m) s.clock amount e (far.past-stage q),
+        λ q. by_amounts (λ c m. PastPhase t (at_clock c s) code m) s.clock amount e (far.past_phase q),
+        λ q. by_amounts (λ c m. PastStage t (at_clock c s) code m) s.clock amount e (far.past_stage q),
         λ q. by_amounts (λ c m. PastClock (at_clock c s) code m) s.clock amount e (far.past_clock q),
       )
 

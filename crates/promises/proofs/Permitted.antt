@@ -18,7 +18,7 @@ use Rattle.shift.specs.Steps.{good_bound, failed_bound}
 use Rattle.shift.specs.Answers.{checks, guard}
 use Rattle.promises.specs.Allowed.{Shifting, Permitted}
 use Rattle.promises.proofs.Runs.{checked}
-use Rattle.promises.proofs.PlaceLaws.{within_ex, within_report, within_stage, within_phase, passing, engine-phase, engine_order, in_report_time_lem, too_early, in_take_time_lem, too_late, in_channel_time, in_device_time, past-stage, in_phase_time, past-phase}
+use Rattle.promises.proofs.PlaceLaws.{within_ex, within_report, within_stage, within_phase, passing, engine_phase, engine_order, in_report_time_lem, too_early, in_take_time_lem, too_late, in_channel_time, in_device_time, past_stage, in_phase_time, past_phase}
 
 -- ---- what the checks of a step say, in the document's words
 module _ (t : Table) (s : State) where
@@ -44,12 +44,12 @@ module _ (t : Table) (s : State) where
       )
   said EngineWaits h =
       let z : Shifting s = omega (arith, tests) in
-      (omega (arith, tests), (engine-phase s z (omega (arith, tests)), omega (arith, tests)))
+      (omega (arith, tests), (engine_phase s z (omega (arith, tests)), omega (arith, tests)))
   said Take h = (omega (arith, tests), (omega (arith, tests), omega (arith, tests), in_take_time_lem t s h.1.1.1.1.1.1.0))
   said AskClutch h =
       let z : Shifting s = omega (arith, tests) in
       let de = de_in_lem t s.phase z.0 (omega arith) in
-      (omega (arith, tests), (engine-phase s z (omega (arith, tests)), omega (arith, tests), omega (arith, tests)))
+      (omega (arith, tests), (engine_phase s z (omega (arith, tests)), omega (arith, tests), omega (arith, tests)))
   said RaiseError h = omega (arith, tests)
   said Finish h = omega (arith, tests)
   said (Tick n) h =
@@ -83,7 +83,7 @@ module _ (t : Table) (s : State) where
       in
       omega (arith, tests)
   meant DeviceFailed h =
-      let m : ¬ (order_of s.phase ≤ 2) = λ l. h.1.2 (engine-phase s h.1.0 l) in
+      let m : ¬ (order_of s.phase ≤ 2) = λ l. h.1.2 (engine_phase s h.1.0 l) in
       let delay = error_delay_in_lem t s.phase h.1.0.0 (let l = h.1.0.1 in omega arith) in
       let e =
       passing (within_report s (failed_bound t s)) (λ n.
@@ -107,13 +107,13 @@ module _ (t : Table) (s : State) where
       let now = s.clock + n in
       let a =
       passing (within_stage t s now) (λ n.
-      let w = past-stage t s now n in
+      let w = past_stage t s now n in
       let i = h.1.1 w.0 in
       ⊎_elim (λ c. let l = i.channel c.0 in let m = c.1 in omega arith) (λ c. let l = i.device c.0 in let m = c.1 in omega arith) w.1)
       in
       let b =
       passing (within_phase t s now) (λ n.
-      let w = past-phase t s now n in
+      let w = past_phase t s now n in
       let l = (h.1.1 w.0).phase in
       omega arith)
       in

@@ -26,8 +26,8 @@ passing false n = absurd (n tt)
 
 -- ---- the engine phases by their numbers, and by their orders
 module _ (s : State) where
-  pub engine-phase : Shifting s → order_of s.phase ≤ 2 → Engine s
-  engine-phase z m =
+  pub engine_phase : Shifting s → order_of s.phase ≤ 2 → Engine s
+  engine_phase z m =
       let l = ordered s.phase z.0 (omega arith) in
       engine_in s.phase z.0 (omega arith) (rw (le-leb 1 (order_of s.phase) l, le-leb (order_of s.phase) 2 m) tt)
 
@@ -115,12 +115,12 @@ module _ (t : Table) (s : State) where
         let l = rw (held, e) at h in
         omega (arith, tests)
 
-    pub past-stage :
+    pub past_stage :
         T (not (within_stage t s now))
         → Shifting s
         × ((OneOf (1 ∷ 3 ∷ []) s.stage × (s.stage_time + t.channel_dl < now))
         ⊎ ((s.stage ≡ 2) × (s.stage_time + device_limit_in t s.phase < now)))
-    past-stage h =
+    past_stage h =
         case (limited s)
         (λ e.
         let z = limited_in s (passes (limited s) e) in
@@ -144,10 +144,10 @@ module _ (t : Table) (s : State) where
         let lim = phase_limit_in_lem t s.phase z.0 (omega arith) in
         omega (arith, tests)
 
-    pub past-phase :
+    pub past_phase :
         T (not (within_phase t s now))
         → Shifting s × (s.phase_time + phase_limit_in t s.phase < now)
-    past-phase h =
+    past_phase h =
         case (unfinished s.phase)
         (λ e.
         let z = unfinished_in s.phase (passes (unfinished s.phase) e) in

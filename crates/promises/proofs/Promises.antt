@@ -19,7 +19,7 @@ use Rattle.promises.specs.Effects.{Makes}
 use Rattle.promises.specs.Kinds.{Kind, last_kind, NotOlder}
 use Rattle.promises.specs.Verdicts.{Exact}
 use Rattle.promises.proofs.Runs.{joined, pieces, beginning}
-use Rattle.promises.proofs.Looser.{same-run}
+use Rattle.promises.proofs.Looser.{same_run}
 use Rattle.promises.proofs.Ages.{in_time, covered, sums_admitted}
 use Rattle.promises.proofs.Permitted.{permitted}
 use Rattle.promises.proofs.EffectLaws.{effects}
@@ -69,14 +69,14 @@ pub accepted_by_a_looser_table :
     (t u : Table) → broken_rule t ≡ 0 → broken_rule u ≡ 0 → NowhereTighter t u → (rs : List Reading)
     → (run t start rs).number ≡ 0
     → run u start rs ≡ run t start rs
-accepted_by_a_looser_table t u a b l = same-run t u l start
+accepted_by_a_looser_table t u a b l = same_run t u l start
 
 -- the same from any state, and of tables that are not admitted too
 pub accepted_by_a_looser_table_from_any_state :
     (t u : Table) → NowhereTighter t u → (s : State) (rs : List Reading)
     → (run t s rs).number ≡ 0
     → run u s rs ≡ run t s rs
-accepted_by_a_looser_table_from_any_state = same-run
+accepted_by_a_looser_table_from_any_state = same_run
 
 -- At each point of an accepted list, an unfinished shift is no older than the sum of its kind, and that sum is at most ChangeDL.
 -- The kind is that of the last request before the point, which opened the shift; k is the answer for a list without a request,

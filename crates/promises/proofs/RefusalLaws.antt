@@ -27,7 +27,7 @@ use Rattle.shift.specs.Refusals.{code_of, amount_of, Reads}
 use Rattle.shift.proofs.Refusals.{reads}
 use Rattle.promises.specs.Refusals.{placings, ByCode, Misplaced, WrongSide, TooEarly, TooLate, PastClock, PastStage, PastPhase, record_refusals}
 use Rattle.promises.proofs.Permitted.{said, meant}
-use Rattle.promises.proofs.PlaceLaws.{within_ex, within_report, engine-phase, engine_order, in_report_time_lem, too_early, in_take_time_lem, too_late, in_channel_time, in_device_time, past-stage, in_phase_time, past-phase}
+use Rattle.promises.proofs.PlaceLaws.{within_ex, within_report, engine_phase, engine_order, in_report_time_lem, too_early, in_take_time_lem, too_late, in_channel_time, in_device_time, past_stage, in_phase_time, past_phase}
 
 -- ---- the number of some checks: by one, or by several with one number, and by those behind them
 pub by_test :
@@ -86,12 +86,12 @@ module _ (t : Table) (s : State) (amount : ℕ) where
   no_tick : (code : ℕ) → ¬ (code ≡ 12) → FirstOf (from_13 t s code amount) 0
   no_tick code n = inr (λ h. n h.0, inr (λ h. n h.0, inr (λ h. n h.0, refl)))
 
-  pub never-early : (code : ℕ) → ¬ (code ≡ 5) × ¬ (code ≡ 6) × ¬ (code ≡ 9) → ¬ TooEarly t s code
-  never-early code n h = ⊎_elim (λ e. n.2 e.0) (⊎_elim (λ e. n.0 e.0) (λ e. n.1 e.0)) h
+  pub never_early : (code : ℕ) → ¬ (code ≡ 5) × ¬ (code ≡ 6) × ¬ (code ≡ 9) → ¬ TooEarly t s code
+  never_early code n h = ⊎_elim (λ e. n.2 e.0) (⊎_elim (λ e. n.0 e.0) (λ e. n.1 e.0)) h
 
   untimed :
       (code : ℕ) → (¬ (code ≡ 5) × ¬ (code ≡ 6) × ¬ (code ≡ 9)) × ¬ (code ≡ 8) × ¬ (code ≡ 12) → FirstOf (from_9 t s code amount) 0
-  untimed code n = inr (never-early code n.0, inr (λ h. n.1 h.0, no_tick code n.2))
+  untimed code n = inr (never_early code n.0, inr (λ h. n.1 h.0, no_tick code n.2))
 
   -- deliver, engine waits, raise error, finish and reset: 7
   placed :
@@ -134,7 +134,7 @@ module _ (t : Table) (s : State) (amount : ℕ) where
       inr (
         no_request 8 (omega arith),
         inr (
-          never-early 8 (omega arith),
+          never_early 8 (omega arith),
           test (within_ex t s) 10 (TooLate t s 8) (from_13 t s 8 amount) []
               (λ b w. let l = in_take_time_lem t s b w.1 in let m = w.2 in omega arith)
               (λ b. let w = too_late t s z b in (refl, w.0, w.1))
@@ -188,14 +188,14 @@ module _ (t : Table) (s : State) (amount : ℕ) where
   failed =
       several (listed s ++ (shifts_in s 2 ++ in_device s)) (in_report_time s (failed_bound t s)) 7 (Misplaced s 6) (from_8 t s 6 amount) tt
       (λ h m. m (omega (arith, tests), (omega (arith, tests), omega (arith, tests), λ e. let o = engine_order s e in omega (arith, tests))))
-      (λ n p. n (let o : ¬ (order_of s.phase ≤ 2) = λ l. p.1.2 (engine-phase s p.1.0 l) in omega (arith, tests)))
+      (λ n p. n (let o : ¬ (order_of s.phase ≤ 2) = λ l. p.1.2 (engine_phase s p.1.0 l) in omega (arith, tests)))
       (λ h. let z : Shifting s = omega (arith, tests) in reported 6 (failed_bound t s) (omega arith) z (failed_too_early z))
 
   -- ask clutch: 7 and 9
   ask : FirstOf (from_7 t s 9 amount) (guard t s (Means AskClutch))
   ask =
       several (listed s ++ (shifts_in s 5 ++ in_engine s)) (in_ask_time t s) 7 (Misplaced s 9) (from_8 t s 9 amount) tt
-      (λ h m. m (omega (arith, tests), (engine-phase s (omega (arith, tests)) (omega (arith, tests)), omega (arith, tests))))
+      (λ h m. m (omega (arith, tests), (engine_phase s (omega (arith, tests)) (omega (arith, tests)), omega (arith, tests))))
       (λ n p. n (let o = engine_order s p.1.0 in omega (arith, tests)))
       (λ h.
       let z : Shifting s = omega (arith, tests) in
@@ -219,14 +219,14 @@ module _ (t : Table) (s : State) (amount : ℕ) where
       inr (
         no_request 12 (omega arith),
         inr (
-          never-early 12 (omega arith),
+          never_early 12 (omega arith),
           inr (
             λ w. absurd (omega arith),
             first_of (in_tick_time t s now) (from_13 t s 12 amount) (
               (λ b. (refl, omega (arith, tests)), (λ b w. let l = w.1 in omega (arith, tests), refl)),
               (
                 (
-                  λ b. let w = past-stage t s now b in (refl, w.0, w.1),
+                  λ b. let w = past_stage t s now b in (refl, w.0, w.1),
                   (
                     λ b w.
                         ⊎_elim
@@ -238,7 +238,7 @@ module _ (t : Table) (s : State) (amount : ℕ) where
                 ),
                 (
                   (
-                    λ b. let w = past-phase t s now b in (refl, w.0, w.1),
+                    λ b. let w = past_phase t s now b in (refl, w.0, w.1),
                     (λ b w. let l = in_phase_time t s now b w.1 in let m = w.2 in omega arith, refl),
                   ),
                   tt,
@@ -293,6 +293,6 @@ module _ (t : Table) (s : State) (code middle amount : ℕ) where
   of_reading WrongAmount h = inr (h.0, inl (h.1, refl))
 
 -- the number of a record, under a table that has been tested
-pub first-refusal :
+pub first_refusal :
     (t : Table) (s : State) (code middle amount : ℕ) → FirstOf (record_refusals t s code middle amount) (guard t s (reading code middle amount))
-first-refusal t s code middle amount = of_reading t s code middle amount (reading code middle amount) (reads middle amount code)
+first_refusal t s code middle amount = of_reading t s code middle amount (reading code middle amount) (reads middle amount code)

@@ -36,6 +36,6 @@ pub record Agree (old new : Outcome) : Type 0 where
   pub stage : old.state.stage ≡ new.state.stage
   pub stage_time : old.state.stage_time ≡ new.state.stage_time
   pub request_time : old.state.request_time ≡ new.state.request_time
-  pub failed-phase : old.state.failed_phase ≡ new.state.failed_phase
+  pub failed_phase : old.state.failed_phase ≡ new.state.failed_phase
   pub at_rest : new.state.phase ≡ 0 → old.state ≡ new.state
   pub in_22 : new.state.phase ≡ 22 → old.state ≡ new.state

@@ -46,7 +46,7 @@ pub record PastBy (Past : ℕ → ℕ → Type 0) (now e : ℕ) : Type 0 where
 pub record HowFar (t : Table) (s : State) (code amount number excess : ℕ) : Type 0 where
   pub too_early : number ≡ 9 → EarlyBy t s code excess
   pub too_late : number ≡ 10 → LateBy t s code excess
-  pub past-phase : number ≡ 11 → PastBy (λ c n. PastPhase t (at_clock c s) code n) (s.clock + amount) excess
-  pub past-stage : number ≡ 12 → PastBy (λ c n. PastStage t (at_clock c s) code n) (s.clock + amount) excess
+  pub past_phase : number ≡ 11 → PastBy (λ c n. PastPhase t (at_clock c s) code n) (s.clock + amount) excess
+  pub past_stage : number ≡ 12 → PastBy (λ c n. PastStage t (at_clock c s) code n) (s.clock + amount) excess
   pub past_clock : number ≡ 13 → PastBy (λ c n. PastClock (at_clock c s) code n) (s.clock + amount) excess
   pub none : ¬ OneOf (9 ∷ 10 ∷ 11 ∷ 12 ∷ 13 ∷ []) number → excess ≡ 0

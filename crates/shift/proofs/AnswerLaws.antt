@@ -21,7 +21,7 @@ use Rattle.shift.specs.Steps.{allowed, effect}
 use Rattle.shift.specs.Excess.{early_bound}
 use Rattle.shift.specs.Answers.{refusal, checks_of, refused, answer, answer_to, admitting}
 use Rattle.shift.specs.contracts.Reading.{the_type}
-use Rattle.shift.specs.contracts.Step.{the_type as step-type}
+use Rattle.shift.specs.contracts.Step.{the_type as step_type}
 
 pub refuses : (k over : ℕ) (next s : State) → ¬ (k ≡ 0) → refused k over s ≡ answer k over next s
 refuses zero over next s h = absurd (h refl)
@@ -47,7 +47,7 @@ no_step own t s WrongAmount o = refl
 abbrev others : List ℕ
 others = 0 ∷ 1 ∷ 2 ∷ 3 ∷ 4 ∷ 5 ∷ 6 ∷ 7 ∷ 8 ∷ 9 ∷ 10 ∷ 12 ∷ []
 
-pub no_tick : (s : State) (x : Step) → OneOf others (tag_of step-type x) → s.clock ≡ (effect s x).clock
+pub no_tick : (s : State) (x : Step) → OneOf others (tag_of step_type x) → s.clock ≡ (effect s x).clock
 no_tick s FromNeutral o = refl
 no_tick s GearToGear o = refl
 no_tick s ToNeutral o = refl
@@ -66,20 +66,20 @@ no_tick s Reset o = refl
 abbrev never : List ℕ
 never = 0 ∷ 1 ∷ 2 ∷ 3 ∷ 6 ∷ 7 ∷ 9 ∷ 10 ∷ 11 ∷ 12 ∷ []
 
-pub never-early : (t : Table) (s : State) (x : Step) → OneOf never (tag_of step-type x) → 0 ≡ early_bound t s x
-never-early t s FromNeutral o = refl
-never-early t s GearToGear o = refl
-never-early t s ToNeutral o = refl
-never-early t s Deliver o = refl
-never-early t s DeviceGood o = absurd (miss never 4 tt o)
-never-early t s DeviceFailed o = absurd (miss never 5 tt o)
-never-early t s EngineWaits o = refl
-never-early t s Take o = refl
-never-early t s AskClutch o = absurd (miss never 8 tt o)
-never-early t s RaiseError o = refl
-never-early t s Finish o = refl
-never-early t s (Tick n) o = refl
-never-early t s Reset o = refl
+pub never_early : (t : Table) (s : State) (x : Step) → OneOf never (tag_of step_type x) → 0 ≡ early_bound t s x
+never_early t s FromNeutral o = refl
+never_early t s GearToGear o = refl
+never_early t s ToNeutral o = refl
+never_early t s Deliver o = refl
+never_early t s DeviceGood o = absurd (miss never 4 tt o)
+never_early t s DeviceFailed o = absurd (miss never 5 tt o)
+never_early t s EngineWaits o = refl
+never_early t s Take o = refl
+never_early t s AskClutch o = absurd (miss never 8 tt o)
+never_early t s RaiseError o = refl
+never_early t s Finish o = refl
+never_early t s (Tick n) o = refl
+never_early t s Reset o = refl
 
 pub in_clock :
     (t : Table) (s : State) (x : Step) → first (allowed t s x) ≡ 0 → s.clock ≤ 4294967295

@@ -21,8 +21,8 @@ step κs a x y at at' p q = p ∙ sym q
 pub unlisted : Determined unlisted_reads.Post
 unlisted κs a x y at at' p q = p ∙ sym q
 
-pub judged-listed : Determined judged_listed_reads.Post
-judged-listed κs a x y at at' p q = p ∙ sym q
+pub judged_listed : Determined judged_listed_reads.Post
+judged_listed κs a x y at at' p q = p ∙ sym q
 
 pub of : Determined of_reads.Post
 of κs a x y at at' p q = p ∙ sym q
@@ -36,5 +36,5 @@ refusal_of κs a x y at at' p q = p ∙ sym q
 pub of_head : Determined of_head_reads.Post
 of_head κs a x y at at' p q = p ∙ sym q
 
-pub judged-step : Determined judged_step_reads.Post
-judged-step κs a x y at at' p q = p ∙ sym q
+pub judged_step : Determined judged_step_reads.Post
+judged_step κs a x y at at' p q = p ∙ sym q

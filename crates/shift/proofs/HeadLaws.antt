@@ -21,8 +21,8 @@ abbrev pub wrong_by : ℕ → Reading
 wrong_by code = cond (leb 1 code && leb code 13) WrongAmount WrongCode
 
 module _ (code : ℕ) where
-  a-code : ¬ NoCode code → (1 ≤ code) × (code ≤ 13)
-  a-code h =
+  a_code : ¬ NoCode code → (1 ≤ code) × (code ≤ 13)
+  a_code h =
       elim (dec_lt code 1) [
         | yes l ↦ absurd (h (inl (omega arith)))
         | no l ↦ elim (dec_lt 13 code) [
@@ -40,7 +40,7 @@ module _ (code : ℕ) where
         (λ e. rw (lt-leb 1 code (omega arith)))
         (λ e. elim (dec_lt code 1) [ yes l ↦ rw (lt-leb 1 code l) | no l ↦ rw (le-leb 1 code (omega arith), lt-leb code 13 e) ])
         h
-    as_read WrongAmount h n = let k = a-code h.0 in rw (le-leb 1 code k.0, le-leb code 13 k.1)
+    as_read WrongAmount h n = let k = a_code h.0 in rw (le-leb 1 code k.0, le-leb code 13 k.1)
 
     pub no_step_read : (¬ NoCode code → Formed code middle amount → ⊥) → wrong_by code ≡ reading code middle amount
     no_step_read = as_read (reading code middle amount) (reads middle amount code)
@@ -70,7 +70,7 @@ module _ (head amount : ℕ) where
       no_step_read (head % 256) (head / 256) amount
       (λ k f.
       let m = f.middle_byte in
-      let c = a-code (head % 256) k in
+      let c = a_code (head % 256) k in
       let twelve = left_over head r (omega arith) (omega arith) in
       let some = (f.tick (omega arith)).0 in
       omega arith)

@@ -131,8 +131,8 @@ pub record KnownRuns : Type 0 where
       map (λ n. step_on old_default (good_at n) 8 0) (150 ∷ 151 ∷ [])
       ≡ answered 0 0 (state 150 neutral 3 150 sent 150 0 0) ∷ answered 10 1 (good_at 151) ∷ []
 
-pub known-runs : KnownRuns
-known-runs = record { k1_k11 = refl; k12 = refl; k13 = refl }
+pub known_runs : KnownRuns
+known_runs = record { k1_k11 = refl; k12 = refl; k13 = refl }
 
 pub the_customer's_case : map (λ k. run old_default start k.steps) cases ≡ map (λ k. k.ends) cases
 the_customer's_case = refl
@@ -190,8 +190,8 @@ pub record KnownDelays : Type 0 where
       ≡ 16 ∷ 16 ∷ 16 ∷ 16 ∷ 16 ∷ 16 ∷ 16 ∷ []
   pub kept : map broken_rule (house ∷ delaying 1 2 1 2 ∷ delaying 20 150 20 150 ∷ delaying 0 0 0 0 ∷ []) ≡ 0 ∷ 0 ∷ 0 ∷ 0 ∷ []
 
-pub known-delays : KnownDelays
-known-delays = record { runs = refl; broken = refl; kept = refl }
+pub known_delays : KnownDelays
+known_delays = record { runs = refl; broken = refl; kept = refl }
 
 -- ---- the two defaults: K1 with 5, 10 and 11 ms for each of three messages. Where it is accepted the shift is done, at rest and in gear;
 -- else the first tick is refused with 12, by what it is past 5 under the old default and past 10 under the new one

@@ -6,10 +6,10 @@ use Prim.Native.Nat.{ℕ, zero, suc, ◌≤◌}
 use native.Mathlib.Omega.{arith}
 use lib.Dec.{T, leb, eqb, leb→le, le→leb}
 use Rattle.checks.specs.Checks.{first}
-use Rattle.checks.proofs.Checks.{Holds, first-left, first_right}
+use Rattle.checks.proofs.Checks.{Holds, first_left, first_right}
 use Rattle.limits.specs.declared.Table.{Table}
 use Rattle.phases.specs.Phases.{set, release, order_of, unfinished}
-use Rattle.phases.proofs.PhaseLaws.{next-listed, clutch_listed}
+use Rattle.phases.proofs.PhaseLaws.{next_listed, clutch_listed}
 use Rattle.shift.specs.declared.State.{State}
 use Rattle.shift.specs.declared.Step.{Step}
 use Rattle.shift.specs.declared.Step.TheVariants.{FromNeutral, GearToGear, ToNeutral, Deliver, DeviceGood, DeviceFailed, EngineWaits, Take, AskClutch, RaiseError, Finish, Tick, Reset}
@@ -33,7 +33,7 @@ judged_as_listed t s r h = ap (answer_to t s r) (left_to_check t s h r)
 
 -- of another what is no step is refused by its own number, and a step by the state's
 pub kept_out : (t : Table) (s : State) (r : Reading) → ¬ (first (listed s) ≡ 0) → guard t s r ≡ cond (eqb (refusal r) 0) (first (listed s)) (refusal r)
-kept_out t s (Means x) n = first-left (listed s) (allowed t s x) n
+kept_out t s (Means x) n = first_left (listed s) (allowed t s x) n
 kept_out t s WrongCode n = refl
 kept_out t s WrongAmount n = refl
 
@@ -60,7 +60,7 @@ leads s Deliver h = (h.0, (tt, h.1.1))
 leads s DeviceGood h = (h.0, (tt, h.1.1))
 leads s DeviceFailed h = (h.0, (tt, h.1.1))
 leads s EngineWaits h = (h.0, (tt, h.1.1))
-leads s Take h = enters _ (boxed (box_taken s) s) (next-listed s.phase (omega (arith, leb→le s.phase 23 h.0))) (takes s h)
+leads s Take h = enters _ (boxed (box_taken s) s) (next_listed s.phase (omega (arith, leb→le s.phase 23 h.0))) (takes s h)
 leads s AskClutch h = enters _ s (clutch_listed s.phase (omega (arith, leb→le s.phase 23 h.0))) h
 leads s RaiseError h = enters 23 s (omega arith) h
 leads s Finish h = enters 0 s (omega arith) h

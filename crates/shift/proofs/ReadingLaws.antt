@@ -11,16 +11,16 @@ use Rattle.shift.specs.declared.Step.TheVariants.{Finish}
 use Rattle.shift.specs.declared.Reading.TheVariants.{Means, WrongCode, WrongAmount}
 use Rattle.shift.specs.Answers.{plain, readings, reading, refusal}
 
-same-refusal : (b : Bool) (x y : Step) → refusal (cond b (Means x) WrongAmount) ≡ refusal (cond b (Means y) WrongAmount)
-same-refusal true x y = refl
-same-refusal false x y = refl
+same_refusal : (b : Bool) (x y : Step) → refusal (cond b (Means x) WrongAmount) ≡ refusal (cond b (Means y) WrongAmount)
+same_refusal true x y = refl
+same_refusal false x y = refl
 
 module _ (middle n : ℕ) where
-  pub past-codes : (c : ℕ) → 13 < c → reading c middle n ≡ WrongCode
-  past-codes c h = get_or-eq_default (readings middle n) WrongCode {n = c} h
+  pub past_codes : (c : ℕ) → 13 < c → reading c middle n ≡ WrongCode
+  past_codes c h = get_or-eq_default (readings middle n) WrongCode {n = c} h
 
   one : (x : Step) → refusal (plain Finish middle n) ≡ refusal (plain x middle n)
-  one = same-refusal (eqb middle 0 && eqb n 0) Finish
+  one = same_refusal (eqb middle 0 && eqb n 0) Finish
 
   pub alike : (c : ℕ) → 1 ≤ c → c < 14 → ¬ (c ≡ 12) → refusal (plain Finish middle n) ≡ refusal (reading c middle n)
   alike =

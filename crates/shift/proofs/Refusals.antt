@@ -17,13 +17,13 @@ use Rattle.shift.specs.declared.Reading.{Reading}
 use Rattle.shift.specs.declared.Reading.TheVariants.{Means, WrongCode, WrongAmount}
 use Rattle.shift.specs.Refusals.{code_of, amount_of, NoCode, Formed, Reads, refusals}
 use Rattle.shift.specs.Answers.{plain, ticking, reading, refusal}
-use Rattle.shift.proofs.ReadingLaws.{past-codes}
+use Rattle.shift.proofs.ReadingLaws.{past_codes}
 use Rattle.shift.proofs.Step.of.Reads as of_reads
 use Rattle.shift.proofs.refusal_of.Reads as refusal_of_reads
 
 -- ---- what a code, a middle byte and an amount mean
-pub a-code : (code : ℕ) → 1 ≤ code → code ≤ 13 → ¬ NoCode code
-a-code code l m h = ⊎_elim (λ e. omega arith) (λ e. omega arith) h
+pub a_code : (code : ℕ) → 1 ≤ code → code ≤ 13 → ¬ NoCode code
+a_code code l m h = ⊎_elim (λ e. omega arith) (λ e. omega arith) h
 
 module _ (middle amount : ℕ) where
   of_test :
@@ -41,7 +41,7 @@ module _ (middle amount : ℕ) where
   of_plain x o =
       let m = eqb middle 0 in
       let a = eqb amount 0 in
-      of_test (m && a) (code_of x) x (a-code (code_of x) o.0 o.1)
+      of_test (m && a) (code_of x) x (a_code (code_of x) o.0 o.1)
       (λ h. record {
         middle_byte = eqb→eq middle 0 (left m a h);
         plain = λ _. eqb→eq amount 0 (right m a h);
@@ -56,7 +56,7 @@ module _ (middle amount : ℕ) where
       let m = eqb middle 0 in
       let low = leb 1 amount in
       let high = leb amount 65535 in
-      of_test (m && (low && high)) 12 (Tick amount) (a-code 12 (omega arith) (omega arith))
+      of_test (m && (low && high)) 12 (Tick amount) (a_code 12 (omega arith) (omega arith))
       (λ h. record {
         middle_byte = eqb→eq middle 0 (left m (low && high) h);
         plain = λ n. absurd (n refl);
@@ -75,7 +75,7 @@ module _ (middle amount : ℕ) where
   reads code =
       elim (dec_lt code 14) [
         | yes h ↦ by_code code h
-        | no h ↦ rw (past-codes middle amount code (omega arith)) (inr (omega arith))
+        | no h ↦ rw (past_codes middle amount code (omega arith)) (inr (omega arith))
       ]
 
 -- ---- the number of what is no step

@@ -16,20 +16,20 @@ use Rattle.shiftlist.specs.Walks.{coded_in, trace_in, in_hand, ticked, walked_by
 use Rattle.shiftlist.proofs.WalkLaws.{whole_on, shifts_on, walked, listed, same_trace}
 
 -- ---- the walk by a step's code and amount
-pub same-walk : (w : Walk) (i : ℕ) (x : Step) → (stepped (trace_in w) x).clock ≤ 4294967295 → walked_by w i (code_of x) (amount_of x) ≡ walked w i (Means x)
-same-walk w i FromNeutral h = refl
-same-walk w i GearToGear h = refl
-same-walk w i ToNeutral h = refl
-same-walk w i Deliver h = refl
-same-walk w i DeviceGood h = refl
-same-walk w i DeviceFailed h = refl
-same-walk w i EngineWaits h = refl
-same-walk w i Take h = refl
-same-walk w i AskClutch h = refl
-same-walk w i RaiseError h = refl
-same-walk w i Finish h = refl
-same-walk w i (Tick n) h = let small : (w.clock + n) % 4294967296 ≡ w.clock + n = omega arith in ap (ticked w i) small
-same-walk w i Reset h = refl
+pub same_walk : (w : Walk) (i : ℕ) (x : Step) → (stepped (trace_in w) x).clock ≤ 4294967295 → walked_by w i (code_of x) (amount_of x) ≡ walked w i (Means x)
+same_walk w i FromNeutral h = refl
+same_walk w i GearToGear h = refl
+same_walk w i ToNeutral h = refl
+same_walk w i Deliver h = refl
+same_walk w i DeviceGood h = refl
+same_walk w i DeviceFailed h = refl
+same_walk w i EngineWaits h = refl
+same_walk w i Take h = refl
+same_walk w i AskClutch h = refl
+same_walk w i RaiseError h = refl
+same_walk w i Finish h = refl
+same_walk w i (Tick n) h = let small : (w.clock + n) % 4294967296 ≡ w.clock + n = omega arith in ap (ticked w i) small
+same_walk w i Reset h = refl
 
 -- one more for a request
 abbrev pub one_more : ℕ → ℕ → ℕ
@@ -73,7 +73,7 @@ module _ (a b c d : ℕ) (w : Walk) (i : ℕ) (rs : List Reading) (h : Sound (tr
   walked_same =
       ap (λ k. walked_by w i k n) (sym own.0)
       ∙ ap (walked_by w i (code_of x)) (sym own.1)
-      ∙ same-walk w i x sound.1
+      ∙ same_walk w i x sound.1
       ∙ ap (walked w i) (sym step.is)
 
   pub sound_on : Sound (trace_in (walked w i (record_of a b c d))) rs

@@ -25,8 +25,8 @@ end_trace w i [] = refl
 end_trace w i (x ∷ xs) =
     end_trace (walked w i x) (suc i) xs ∙ ap (λ t. traced t xs) (same_trace (kind_of x) w i (asks x) (after (trace_in w) x))
 
-pub from-rest : (i : ℕ) (t : Trace) (rs : List Reading) → unfinished t.phase ≡ false → Sound t rs → listed (idle t) i rs ≡ shifts_on i t rs
-from-rest i t rs u h = makes (idle t) i rs h ∙ ap (λ b. with b (whole_on (in_hand (idle t)) i t rs) (shifts_on i t rs)) u
+pub from_rest : (i : ℕ) (t : Trace) (rs : List Reading) → unfinished t.phase ≡ false → Sound t rs → listed (idle t) i rs ≡ shifts_on i t rs
+from_rest i t rs u h = makes (idle t) i rs h ∙ ap (λ b. with b (whole_on (in_hand (idle t)) i t rs) (shifts_on i t rs)) u
 
 -- ---- which entries are open: at most the last, and it exactly in phases 1 to 21
 abbrev pub Each : (Shift → Type 0) → List Shift → Type 0
@@ -49,9 +49,9 @@ ending k p q (goes e u v c z) b = falsely (sym c ∙ b)
 ending k p q (ends m e u v c z) b = λ y. omega (arith, z, y)
 ending k p q (rests e u v c) b = falsely (sym c ∙ b)
 
-pub closed-ended : (w : Walk) (i : ℕ) (xs : List Reading) → Sound (trace_in w) xs → Each Ended (closed w i xs)
-closed-ended w i [] h = tt
-closed-ended w i (Means x ∷ xs) h =
+pub closed_ended : (w : Walk) (i : ℕ) (xs : List Reading) → Sound (trace_in w) xs → Each Ended (closed w i xs)
+closed_ended w i [] h = tt
+closed_ended w i (Means x ∷ xs) h =
     let r = Means x in
     let t = stepped (trace_in w) x in
     let w' = walked w i r in
@@ -60,9 +60,9 @@ closed-ended w i (Means x ∷ xs) h =
     with_each Ended (closes w.phase w'.phase) (in_hand w') (closed w' (suc i) xs)
     (λ b. subst (λ (p : ℕ). ¬ (end_of p ≡ 0)) (sym q)
     (ending (kind_of r) w.phase t.phase (moves (trace_in w) x h.0) (subst (λ p. closes w.phase p ≡ true) q b)))
-    (closed-ended w' (suc i) xs (subst (λ s. Sound s xs) (sym e) h.2))
-closed-ended w i (WrongCode ∷ xs) h = absurd h
-closed-ended w i (WrongAmount ∷ xs) h = absurd h
+    (closed_ended w' (suc i) xs (subst (λ s. Sound s xs) (sym e) h.2))
+closed_ended w i (WrongCode ∷ xs) h = absurd h
+closed_ended w i (WrongAmount ∷ xs) h = absurd h
 
 -- the list from rest: ended entries, then one that is open where the phase at the end is unfinished
 pub shape :
@@ -73,8 +73,8 @@ pub shape :
     × (trace_in z ≡ traced t xs))
 shape i t xs u h =
     let w = idle t in (
-      sym (sym (pieces w i xs []) ∙ ap (listed w i) (append-nil xs) ∙ from-rest i t xs u h),
-      closed-ended w i xs h,
+      sym (sym (pieces w i xs []) ∙ ap (listed w i) (append-nil xs) ∙ from_rest i t xs u h),
+      closed_ended w i xs h,
       end_trace w i xs,
     )
 
@@ -82,4 +82,4 @@ shape i t xs u h =
 pub grows :
     (i : ℕ) (t : Trace) (xs ys : List Reading) → unfinished t.phase ≡ false → Sound t (xs ++ ys)
     → shifts_on i t (xs ++ ys) ≡ closed (idle t) i xs ++ listed (at_end (idle t) i xs) (i + length xs) ys
-grows i t xs ys u h = sym (from-rest i t (xs ++ ys) u h) ∙ pieces (idle t) i xs ys
+grows i t xs ys u h = sym (from_rest i t (xs ++ ys) u h) ∙ pieces (idle t) i xs ys

@@ -40,8 +40,8 @@ entries_from (suc i) (x ∷ es) =
     let e : 16 * suc i ≡ suc (suc (suc (suc (suc (suc (suc (suc (suc (suc (suc (suc (suc (suc (suc (suc (16 * i)))))))))))))))) = omega arith in
     rw e (entries_from i es)
 
-list-from : (i : ℕ) (es : List Shift) → drop (8 + 16 * i) (list_of es) ≡ bytes_of (entries_of (drop i es))
-list-from i es =
+list_from : (i : ℕ) (es : List Shift) → drop (8 + 16 * i) (list_of es) ≡ bytes_of (entries_of (drop i es))
+list_from i es =
     let e : 8 + 16 * i ≡ suc (suc (suc (suc (suc (suc (suc (suc (16 * i)))))))) = omega arith in
     rw e (entries_from i es)
 
@@ -88,24 +88,24 @@ module _ (es : List Shift) (many : length es < 4294967296) where
   abbrev n : ℕ
   n = length es
 
-  count-read : u32_at l 0 ≡ n
-  count-read =
+  count_read : u32_at l 0 ≡ n
+  count_read =
       let e : n % 65536 % 256 + 256 * (n % 65536 / 256) + 65536 * (n / 65536 % 256 + 256 * (n / 65536 / 256)) ≡ n = omega arith in
       e
 
   -- 14 exactly from the count on
-  pub past-count : (i : ℕ) → n ≤ i → fetch_of l i ≡ record { number = 14; shift = no_shift }
-  past-count i h =
+  pub past_count : (i : ℕ) → n ≤ i → fetch_of l i ≡ record { number = 14; shift = no_shift }
+  past_count i h =
       let o : u32_at l 4 ≡ 8 = refl in
-      ap (λ k. found k (shift_at l (8 + 16 * i))) (refused (fetchable (length l) (u32_at l 4) (u32_at l 0) i) 3 (omega (arith, tests, list_long es, count-read, o)))
+      ap (λ k. found k (shift_at l (8 + 16 * i))) (refused (fetchable (length l) (u32_at l 4) (u32_at l 0) i) 3 (omega (arith, tests, list_long es, count_read, o)))
 
   pub fetched : (i : ℕ) → i < n → Fits (get_or es i no_shift) → fetch_of l i ≡ record { number = 0; shift = get_or es i no_shift }
   fetched i h f =
       let o : u32_at l 4 ≡ 8 = refl in
       let e = get_or es i no_shift in
       let there : drop (8 + 16 * i) l ≡ bytes_of (numbers_of e ++ entries_of (drop (suc i) es)) =
-      list-from i es ∙ ap (λ xs. bytes_of (entries_of xs)) (drop-cons es i no_shift h)
+      list_from i es ∙ ap (λ xs. bytes_of (entries_of xs)) (drop-cons es i no_shift h)
       in
-      ap (λ k. found k (shift_at l (8 + 16 * i))) (holds→first (fetchable (length l) (u32_at l 4) (u32_at l 0) i) (omega (arith, tests, list_long es, count-read, o)))
+      ap (λ k. found k (shift_at l (8 + 16 * i))) (holds→first (fetchable (length l) (u32_at l 4) (u32_at l 0) i) (omega (arith, tests, list_long es, count_read, o)))
       ∙ ap (λ (q : Shift). record { number = 0; shift = q })
       (shift_dropped l (8 + 16 * i) ∙ ap (λ m. shift_at m 0) there ∙ shift_read e (bytes_of (entries_of (drop (suc i) es))) f)

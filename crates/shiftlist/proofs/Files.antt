@@ -16,7 +16,7 @@ use Rattle.shiftlist.specs.Lists.{list_of, shifts_of, size_for, built_of, buffer
 use Rattle.shiftlist.specs.Entries.{Entries}
 use Rattle.shiftlist.proofs.ListLaws.{list_long}
 use Rattle.shiftlist.proofs.BuildLaws.{built}
-use Rattle.shiftlist.proofs.FetchLaws.{fetched, past-count}
+use Rattle.shiftlist.proofs.FetchLaws.{fetched, past_count}
 use Rattle.shiftlist.proofs.EntryLaws.{the_entries}
 use Rattle.shiftlist.proofs.WidthLaws.{shifts_of_a_file, entries_of_a_file_fit}
 use Rattle.shiftlist.specs.contracts.build as build_call
@@ -38,7 +38,7 @@ pub record ListStands (f : List ℕ) (n : ℕ) (before after : List ℕ) : Type 
 pub record FetchedFrom (es : List Shift) (i : ℕ) (r : Fetched) : Type 0 where
   pub below : i < length es → r ≡ record { number = 0; shift = get_or es i no_shift }
   pub past : length es ≤ i → r ≡ record { number = 14; shift = no_shift }
-  pub only-past : r.number ≡ 14 → length es ≤ i
+  pub only_past : r.number ≡ 14 → length es ≤ i
 
 -- ---- of an answer and a buffer that are build's
 module _ (f before after : List ℕ) (r : Listed) (a : r ≡ built_of f (length before)) (b : after ≡ buffer_after f before) where
@@ -85,8 +85,8 @@ module _ (f : List ℕ) (z : (verdict_of f).number ≡ 0) (i : ℕ) where
   pub fetched_so : FetchedFrom (shifts_of f) i (fetch_of (list_of (shifts_of f)) i)
   fetched_so = record {
     below = one_there;
-    past = past-count (shifts_of f) few i;
-    only-past =
+    past = past_count (shifts_of f) few i;
+    only_past =
         λ e.
         case (leb n i) (leb-true n i)
         (λ l.

@@ -59,8 +59,8 @@ module _ (l : List ℕ) (from : ℕ) (w : Walk) (i : ℕ) (bytes : List ℕ) (a 
   abbrev all : ℕ
   all = size_with l from w i bytes
 
-  pub none-laid : (r : ℕ) → r ≡ laid_size l from w i bytes → r ≡ 0 → (length l < all) × (l ≡ laid_in l from w i bytes)
-  none-laid r e z =
+  pub none_laid : (r : ℕ) → r ≡ laid_size l from w i bytes → r ≡ 0 → (length l < all) × (l ≡ laid_in l from w i bytes)
+  none_laid r e z =
       case (leb all (length l))
       (λ h. let k = all_laid l from w i bytes a b (leb-true all (length l) h) in absurd (omega (arith, e, z, k.0, b.0)))
       (λ h. (leb-false all (length l) h, (no_room l from w i bytes (leb-false all (length l) h)).1))

@@ -65,8 +65,8 @@ module _
       ∙ ap (λ q. with b (in_hand v) (laid_by v q (rest_of l (i + 1)))) k
 
 -- ---- a record that ends no shift: a tick, one of the steps that change the stage alone, a take that goes on
-same-phase : (p : ℕ) → closes p p ≡ false
-same-phase p = case (leb p 21) (λ e. let l = leb-true p 21 e in rw (e, lt-leb 22 p (omega arith))) (λ e. rw e)
+same_phase : (p : ℕ) → closes p p ≡ false
+same_phase p = case (leb p 21) (λ e. let l = leb-true p 21 e in rw (e, lt-leb 22 p (omega arith))) (λ e. rw e)
 
 still_is : (w : Walk) (n c a : ℕ) → is_still c ≡ true → ticked w n w.clock ≡ walked_by w n c a
 still_is w n c a e =
@@ -95,10 +95,10 @@ module _ (l : List ℕ) (i : ℕ) (inside : 4 * i + 3 < length l) (w : Walk) (n 
   open_on v e f = made l i inside w n m em v a refl e ∙ ap (λ b. with b (in_hand v) (laid_by v m (rest_of l (i + 1)))) f
 
   pub tick_made : c ≡ 12 → (k : ℕ) → k ≡ clock_by w.clock a → laid_by w n (rest_of l i) ≡ laid_by (ticked w n k) m (rest_of l (i + 1))
-  tick_made e k ek = open_on (ticked w n k) (ap (ticked w n) ek ∙ ap (λ b. cond b (ticked w n (clock_by w.clock a)) (stepped_by w n c)) (sym (eq-eqb c 12 e))) (same-phase w.phase)
+  tick_made e k ek = open_on (ticked w n k) (ap (ticked w n) ek ∙ ap (λ b. cond b (ticked w n (clock_by w.clock a)) (stepped_by w n c)) (sym (eq-eqb c 12 e))) (same_phase w.phase)
 
   pub still_made : is_still c ≡ true → laid_by w n (rest_of l i) ≡ laid_by (ticked w n w.clock) m (rest_of l (i + 1))
-  still_made e = open_on (ticked w n w.clock) (still_is w n c a e) (same-phase w.phase)
+  still_made e = open_on (ticked w n w.clock) (still_is w n c a e) (same_phase w.phase)
 
   pub takes_made : takes_on w.phase c ≡ true → (q : ℕ) → q ≡ next_of w.phase → laid_by w n (rest_of l i) ≡ laid_by (gone_on w n q) m (rest_of l (i + 1))
   takes_made e q eq =
@@ -121,8 +121,8 @@ last_goes clock phase first last last' kind route time n c = by (kind_by c)
     by zero = refl
     by (suc k) = refl
 
-pub stepped-holds : (w : Walk) (n c : ℕ) (v : Walk) → v ≡ stepped_by w n c → holding w.clock v.phase v.first n v.kind v.route v.request_time ≡ v
-stepped-holds w n c v e =
+pub stepped_holds : (w : Walk) (n c : ℕ) (v : Walk) → v ≡ stepped_by w n c → holding w.clock v.phase v.first n v.kind v.route v.request_time ≡ v
+stepped_holds w n c v e =
     ap (λ (u : Walk). holding w.clock u.phase u.first n u.kind u.route u.request_time) e ∙ by (kind_by c) ∙ sym e
   where
     by :
@@ -162,8 +162,8 @@ one_laid list₀ from all list p b e es list' p' ep el h =
     )
 
 -- ---- no record is left
-pub at-end : (l : List ℕ) (i : ℕ) (w : Walk) (n : ℕ) → length l ≤ 4 * i + 3 → laid_by w n (rest_of l i) ≡ with (unfinished w.phase) (in_hand w) []
-at-end l i w n h = ap (laid_by w n) (none_left l i h)
+pub at_end : (l : List ℕ) (i : ℕ) (w : Walk) (n : ℕ) → length l ≤ 4 * i + 3 → laid_by w n (rest_of l i) ≡ with (unfinished w.phase) (in_hand w) []
+at_end l i w n h = ap (laid_by w n) (none_left l i h)
 
 -- ---- at most an entry a record, and one for an open shift
 abbrev pub open_at : ℕ → ℕ
@@ -184,12 +184,12 @@ no_more_open p q e =
     let none : length (with (closes p q) e []) ≡ 0 = rw (never (leb p 21) (leb 22 q) h) in
     omega (arith, none, at_most_one (unfinished q)))
 
-pub laid-at-most : (w : Walk) (i : ℕ) (cs : List Coded) → length (laid_by w i cs) ≤ open_at w.phase + length cs
-laid-at-most w i [] = case (unfinished w.phase) (λ u. rw u (omega arith)) (λ u. rw u (omega arith))
-laid-at-most w i (c ∷ cs) =
+pub laid_at_most : (w : Walk) (i : ℕ) (cs : List Coded) → length (laid_by w i cs) ≤ open_at w.phase + length cs
+laid_at_most w i [] = case (unfinished w.phase) (λ u. rw u (omega arith)) (λ u. rw u (omega arith))
+laid_at_most w i (c ∷ cs) =
     let v = walked_by w i c.code c.amount in
     let rest = laid_by v (suc i) cs in
-    let h = laid-at-most v (suc i) cs in
+    let h = laid_at_most v (suc i) cs in
     let k = no_more_open w.phase v.phase (in_hand v) in
     let e = with-length (closes w.phase v.phase) (in_hand v) rest in
     omega (arith, h, k, e)

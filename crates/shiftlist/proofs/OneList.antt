@@ -37,8 +37,8 @@ module _ (s : State) (rs : List Reading) where
       x.end
 
   module _ (e f : Shift) (x : Entry s rs e) (y : Entry s rs f) (first : e.first ≡ f.first) where
-    same-last : e.last ≡ f.last
-    same-last =
+    same_last : e.last ≡ f.last
+    same_last =
         let a = not_sooner e f x y first in
         let b = not_sooner f e y x (sym first) in
         omega arith
@@ -50,15 +50,15 @@ module _ (s : State) (rs : List Reading) where
         ∙ kind_of_a_request (at rs f.first) f.kind y.request
 
     same_end : e.end ≡ f.end
-    same_end = end_by_phase e x ∙ ap (λ j. end_of (phase_after s rs j)) same-last ∙ sym (end_by_phase f y)
+    same_end = end_by_phase e x ∙ ap (λ j. end_of (phase_after s rs j)) same_last ∙ sym (end_by_phase f y)
 
     same_route : e.route ≡ f.route
     same_route =
         let over : Asked rs e.first e.last → Asked rs f.first f.last =
-        λ a. subst (λ j. Asked rs j f.last) first (subst (Asked rs e.first) same-last a)
+        λ a. subst (λ j. Asked rs j f.last) first (subst (Asked rs e.first) same_last a)
         in
         let back : Asked rs f.first f.last → Asked rs e.first e.last =
-        λ a. subst (λ j. Asked rs j e.last) (sym first) (subst (Asked rs f.first) (sym same-last) a)
+        λ a. subst (λ j. Asked rs j e.last) (sym first) (subst (Asked rs f.first) (sym same_last) a)
         in
         ⊎_elim
         (λ a. ⊎_elim (λ b. a.0 ∙ sym b.0) (λ b. absurd (b.1 (over a.1))) y.route)
@@ -70,14 +70,14 @@ module _ (s : State) (rs : List Reading) where
 
     same_age : e.age ≡ f.age
     same_age =
-        let sum = x.age ∙ ap (λ j. (before s rs (suc j)).clock) same-last ∙ sym y.age in
+        let sum = x.age ∙ ap (λ j. (before s rs (suc j)).clock) same_last ∙ sym y.age in
         let t = same_time in
         omega arith
 
-    same-entry : e ≡ f
-    same-entry =
+    same_entry : e ≡ f
+    same_entry =
         ap (λ n. by_fields n e.last e.kind e.route e.end e.request_time e.age) first
-        ∙ ap (λ n. by_fields f.first n e.kind e.route e.end e.request_time e.age) same-last
+        ∙ ap (λ n. by_fields f.first n e.kind e.route e.end e.request_time e.age) same_last
         ∙ ap (λ n. by_fields f.first f.last n e.route e.end e.request_time e.age) same_kind
         ∙ ap (λ n. by_fields f.first f.last f.kind n e.end e.request_time e.age) same_route
         ∙ ap (λ n. by_fields f.first f.last f.kind f.route n e.request_time e.age) same_end
@@ -141,4 +141,4 @@ no_other_list s rs es fs none x y =
     ext_get_or none es fs (omega arith)
     (λ i h.
     let t = there s rs none es fs x y i h in
-    same-entry s rs (get_or es i none) (get_or fs i none) (x.each i h) (y.each i t.inside) (sym t.first))
+    same_entry s rs (get_or es i none) (get_or fs i none) (x.each i h) (y.each i t.inside) (sym t.first))

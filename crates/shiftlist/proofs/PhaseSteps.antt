@@ -5,7 +5,7 @@ use borrow.Author.Tests.{lt-leb, eqb-false}
 use Rattle.checks.proofs.Tests.{passed, left, right, case}
 use Rattle.checks.proofs.Ranges.{from}
 use Rattle.phases.specs.Phases.{next_of, clutch_of, unfinished, engine}
-use Rattle.phases.proofs.PhaseLaws.{unfinished_in, next-listed, clutch_listed}
+use Rattle.phases.proofs.PhaseLaws.{unfinished_in, next_listed, clutch_listed}
 use Rattle.shift.specs.declared.Step.{Step}
 use Rattle.shift.specs.declared.Step.TheVariants.{FromNeutral, GearToGear, ToNeutral, Deliver, DeviceGood, DeviceFailed, EngineWaits, Take, AskClutch, RaiseError, Finish, Tick, Reset}
 use Rattle.shift.specs.declared.Reading.TheVariants.{Means}
@@ -41,8 +41,8 @@ moved p q u l h =
     (λ f. ends 0 refl (passed (unfinished p) u) out cl (rw f))
     (λ f. let z : q ≡ 23 = omega (arith, eqb-false q 22 f) in ends 1 refl (passed (unfinished p) u) out cl (rw z)))
 
-next-from : (p : ℕ) → 1 ≤ p → p < 22 → 1 ≤ next_of p
-next-from = from _ 1 21 (omega arith)
+next_from : (p : ℕ) → 1 ≤ p → p < 22 → 1 ≤ next_of p
+next_from = from _ 1 21 (omega arith)
 
 clutch_from : (p : ℕ) → 1 ≤ p → p < 22 → T (engine p) → 1 ≤ clutch_of p
 clutch_from = from (λ p. T (engine p) → 1 ≤ clutch_of p) 1 21 (omega arith)
@@ -70,7 +70,7 @@ moves t DeviceFailed h = let i = unfinished_in t.phase h in moved t.phase t.phas
 moves t EngineWaits h = let i = unfinished_in t.phase h in moved t.phase t.phase h i.0 (omega arith)
 moves t Take h =
     let i = unfinished_in t.phase h in
-    moved t.phase (next_of t.phase) h (next-from t.phase i.0 (omega arith)) (next-listed t.phase (omega arith))
+    moved t.phase (next_of t.phase) h (next_from t.phase i.0 (omega arith)) (next_listed t.phase (omega arith))
 moves t AskClutch h =
     let p = t.phase in
     let u = left (unfinished p) (engine p) h in

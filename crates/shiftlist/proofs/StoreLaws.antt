@@ -4,7 +4,7 @@ use Rattle.std.proofs.Common.{◌≡◌, ℕ, suc, ◌+◌, ◌-◌, ◌*◌, �
 use lib.Seq.{sets, sets-eq, set_comm}
 use borrow.Rule.Slice.PartMut.{mid_of, put_mid, mid_len, Post-is}
 use Rattle.numbers.specs.Bytes.{bytes_of, halves}
-use Rattle.numbers.proofs.StoreLaws.{sets-append, at-start, next16, next32}
+use Rattle.numbers.proofs.StoreLaws.{sets-append, at_start, next16, next32}
 use Rattle.shiftlist.specs.declared.Shift.{Shift}
 use Rattle.shiftlist.specs.Lists.{numbers_of, entries_of}
 use Rattle.shiftlist.specs.Walks.{with}
@@ -51,7 +51,7 @@ pub part_stored :
 part_stored l vs a e h r =
     let long : length (mid_of a (e - a) l) ≡ length vs = mid_len a e l r ∙ omega (arith, h) in
     let none : drop (length vs) (mid_of a (e - a) l) ≡ [] = drop_of_length-le (mid_of a (e - a) l) {i = length vs} (omega (arith, long)) in
-    let all : sets (mid_of a (e - a) l) 0 vs ≡ vs = at-start (mid_of a (e - a) l) vs (length vs) refl (omega (arith, long)) ∙ ap (λ b. vs ++ b) none ∙ append-nil vs in
+    let all : sets (mid_of a (e - a) l) 0 vs ≡ vs = at_start (mid_of a (e - a) l) vs (length vs) refl (omega (arith, long)) ∙ ap (λ b. vs ++ b) none ∙ append-nil vs in
     ap (put_mid a (e - a) l) all
     ∙ ap (λ b. take a l ++ (vs ++ b)) (Post-is a e l (omega arith) ∙ ap (λ k. drop k l) (sym h))
     ∙ sym (append_assoc (take a l) vs (drop (a + length vs) l))

@@ -39,13 +39,13 @@ whole_same e i s (r ∷ rs) =
     ∙ ap (λ (t : Trace). unless_ended (end_of t.phase) (grown e i r t.clock t.phase) (whole_on (grown e i r t.clock t.phase) (suc i) t rs))
     (projects s r)
 
-pub shifts-same : (i : ℕ) (s : State) (rs : List Reading) → shifts_from i s rs ≡ shifts_on i (trace_of s) rs
-shifts-same i s [] = refl
-shifts-same i s (r ∷ rs) =
+pub shifts_same : (i : ℕ) (s : State) (rs : List Reading) → shifts_from i s rs ≡ shifts_on i (trace_of s) rs
+shifts_same i s [] = refl
+shifts_same i s (r ∷ rs) =
     let next = led s r in
     let e = begun (kind_of r) i s.clock in
     ap (λ h. entry_for (kind_of r) h (shifts_from (suc i) next rs)) (whole_same e (suc i) next rs)
-    ∙ ap (entry_for (kind_of r) (whole_on e (suc i) (trace_of next) rs)) (shifts-same (suc i) next rs)
+    ∙ ap (entry_for (kind_of r) (whole_on e (suc i) (trace_of next) rs)) (shifts_same (suc i) next rs)
     ∙ ap (λ t. entry_for (kind_of r) (whole_on e (suc i) t rs) (shifts_on (suc i) t rs)) (projects s r)
 
 -- ---- the walk by what was read of the records
@@ -86,8 +86,8 @@ module _ (w : Walk) (i : ℕ) (r : Reading) (t : Trace) (rs : List Reading) wher
       (unless_ended (end_of t.phase) (grown (in_hand w) i r t.clock t.phase) (whole_on (grown (in_hand w) i r t.clock t.phase) (suc i) t rs))
       (entry_for k (whole_on (begun k i w.clock) (suc i) t rs) (shifts_on (suc i) t rs))
 
-  begun-same : (m : ℕ) → end_of t.phase ≡ 0 → t.clock ≡ w.clock → in_hand (further (suc m) w i (asks r) t) ≡ begun (suc m) i w.clock
-  begun-same m z c =
+  begun_same : (m : ℕ) → end_of t.phase ≡ 0 → t.clock ≡ w.clock → in_hand (further (suc m) w i (asks r) t) ≡ begun (suc m) i w.clock
+  begun_same m z c =
       let aged : t.clock - w.clock ≡ 0 = omega arith in
       ap (λ n. record { first = i; last = i; kind = suc m; route = 0; end = n; request_time = w.clock; age = t.clock - w.clock }) z
       ∙ ap (λ n. record { first = i; last = i; kind = suc m; route = 0; end = 0; request_time = w.clock; age = n }) aged
@@ -95,7 +95,7 @@ module _ (w : Walk) (i : ℕ) (r : Reading) (t : Trace) (rs : List Reading) wher
   one_step : (k : ℕ) → Moves k p t.phase → (¬ (k ≡ 0) → t.clock ≡ w.clock) → Steps k
   one_step zero (begins m e u v c z) q = absurd (omega arith)
   one_step (suc k) (begins m e u v c z) q =
-      rw (c, v, u) (ap (λ h. whole_on h (suc i) t rs ∷ shifts_on (suc i) t rs) (begun-same k z (q (λ y. omega arith))))
+      rw (c, v, u) (ap (λ h. whole_on h (suc i) t rs ∷ shifts_on (suc i) t rs) (begun_same k z (q (λ y. omega arith))))
   one_step zero (goes e u v c z) q = rw (c, v, u) (ap (λ n. unless_ended n (grown (in_hand w) i r t.clock t.phase) (whole_on (grown (in_hand w) i r t.clock t.phase) (suc i) t rs) ∷ shifts_on (suc i) t rs) (sym z))
   one_step (suc k) (goes e u v c z) q = absurd (omega arith)
   one_step zero (ends m e u v c z) q = rw (c, v, u) (ap (λ n. unless_ended n (grown (in_hand w) i r t.clock t.phase) (whole_on (grown (in_hand w) i r t.clock t.phase) (suc i) t rs) ∷ shifts_on (suc i) t rs) (sym z))

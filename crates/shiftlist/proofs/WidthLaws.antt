@@ -9,7 +9,7 @@ use Rattle.shift.specs.States.{start}
 use Rattle.shift.specs.Answers.{led}
 use Rattle.stepfile.specs.Files.{readings_of}
 use Rattle.stepfile.proofs.RoundTrip.{as_many_records}
-use Rattle.stepfile.proofs.WholeLaws.{good-file}
+use Rattle.stepfile.proofs.WholeLaws.{good_file}
 use Rattle.trace.specs.Traces.{Trace, trace_of}
 use Rattle.trace.proofs.TraceLaws.{Sound, projects_step}
 use Rattle.verdict.specs.Verdicts.{verdict_of}
@@ -64,7 +64,7 @@ no_more_than_records i s (r ∷ rs) =
 -- ---- of an accepted file
 module _ (f : List ℕ) (z : (verdict_of f).number ≡ 0) where
   records_of_a_file : length (readings_of f) ≤ 16372
-  records_of_a_file = omega (arith, as_many_records f (read f z), (good-file f (read f z)).most)
+  records_of_a_file = omega (arith, as_many_records f (read f z), (good_file f (read f z)).most)
 
   pub shifts_of_a_file : length (shifts_of f) ≤ 16372
   shifts_of_a_file = omega (arith, no_more_than_records 0 start (readings_of f), records_of_a_file)

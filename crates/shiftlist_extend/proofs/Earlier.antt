@@ -30,7 +30,7 @@ use Rattle.shiftlist.proofs.Files.{ListStands, stands}
 use Rattle.shiftlist_extend.specs.Extending.{laid_on, extended_of, list_after}
 use Rattle.shiftlist_extend.proofs.ExtendLaws.{still_open}
 use Rattle.shiftlist_extend.proofs.AppendedLaws.{Appended, further, verdict_is}
-use Rattle.shiftlist_extend.proofs.EndLaws.{s, n, c, z, same-phase, es_are, all-ended}
+use Rattle.shiftlist_extend.proofs.EndLaws.{s, n, c, z, same_phase, es_are, all_ended}
 use Rattle.shiftlist_extend.proofs.FreshLaws.{last, open_last, shifts_are}
 use Rattle.shiftlist_extend.proofs.Fresh.{SameCall, equals_fresh}
 use Rattle.shiftlist_extend.specs.contracts.extend as extend_call
@@ -113,16 +113,16 @@ module _ (f g bytes : List ℕ) (a : Appended f g bytes) where
   abbrev held : Shift
   held = in_hand (z f g bytes a)
 
-  abbrev old-last : Shift
-  old-last = last f g bytes [] a
+  abbrev old_last : Shift
+  old_last = last f g bytes [] a
 
-  from_the_last : (b : Bool) → unfinished end.phase ≡ b → Extends no_shift (with b held []) (laid_on b old-last records end (records_in bytes))
+  from_the_last : (b : Bool) → unfinished end.phase ≡ b → Extends no_shift (with b held []) (laid_on b old_last records end (records_in bytes))
   from_the_last true u =
       let phase = (z f g bytes a).phase in
-      let o = still_open phase (passes (unfinished phase) (ap unfinished (same-phase f g bytes a) ∙ u)) in
-      from_an_open_one held (whole old-last records end (records_in bytes)) (shifts_from records end (records_in bytes)) o
-      (subst (λ e. GoesOn e (whole old-last records end (records_in bytes))) (open_last f g bytes [] a u)
-      (whole_goes_on old-last records end (records_in bytes)))
+      let o = still_open phase (passes (unfinished phase) (ap unfinished (same_phase f g bytes a) ∙ u)) in
+      from_an_open_one held (whole old_last records end (records_in bytes)) (shifts_from records end (records_in bytes)) o
+      (subst (λ e. GoesOn e (whole old_last records end (records_in bytes))) (open_last f g bytes [] a u)
+      (whole_goes_on old_last records end (records_in bytes)))
   from_the_last false u = from_nothing (shifts_from records end (records_in bytes))
 
   pub goes_on : (further f g bytes a).number ≡ 0 → Extends no_shift (shifts_of f) (shifts_of g)
@@ -131,7 +131,7 @@ module _ (f g bytes : List ℕ) (a : Appended f g bytes) where
       let u = unfinished end.phase in
       subst (λ es. Extends no_shift es (shifts_of g)) (sym (es_are f g bytes a))
       (subst (Extends no_shift (over ++ with u held [])) (sym (shifts_are f g bytes [] a accepted))
-      (behind over (with u held []) (laid_on u old-last records end (records_in bytes)) (all-ended f g bytes a) (from_the_last u refl)))
+      (behind over (with u held []) (laid_on u old_last records end (records_in bytes)) (all_ended f g bytes a) (from_the_last u refl)))
 
 -- ---- of an answer and a buffer that are extend's, for the list of f: the list of the longer file g stands there
 pub record ExtendedStands (f g : List ℕ) (n : ℕ) (before after : List ℕ) : Type 0 where

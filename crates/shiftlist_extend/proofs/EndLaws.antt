@@ -21,7 +21,7 @@ use Rattle.shiftlist.specs.declared.Shift.{Shift}
 use Rattle.shiftlist.specs.declared.walk.Walk.{Walk}
 use Rattle.shiftlist.specs.Lists.{shifts_of, no_shift}
 use Rattle.shiftlist.specs.Walks.{in_hand, with}
-use Rattle.shiftlist.proofs.WalkLaws.{closed, at_end, shifts-same}
+use Rattle.shiftlist.proofs.WalkLaws.{closed, at_end, shifts_same}
 use Rattle.shiftlist.proofs.Extended.{Each, Ended, shape}
 use Rattle.shiftlist.proofs.BuildLaws.{begin, file_sound}
 use Rattle.shiftlist.proofs.EntryLaws.{the_entries}
@@ -64,14 +64,14 @@ module _ (f g bytes : List ℕ) (a : Appended f g bytes) where
       subst (λ (q : State). Keeps q z) (sym (state_is f g bytes a))
       (keeps_to_the_end start begin 0 rs sound record { trace = refl; time = λ u. refl })
 
-  pub same-phase : z.phase ≡ s.phase
-  same-phase = ap (λ (t : Trace). t.phase) keeps.trace
+  pub same_phase : z.phase ≡ s.phase
+  same_phase = ap (λ (t : Trace). t.phase) keeps.trace
 
   pub es_are : es ≡ c ++ with (unfinished s.phase) (in_hand z) []
   es_are =
-      shifts-same 0 start rs
+      shifts_same 0 start rs
       ∙ (shape 0 (trace_of start) rs refl sound).0
-      ∙ ap (λ p. c ++ with (unfinished p) (in_hand z) []) same-phase
+      ∙ ap (λ p. c ++ with (unfinished p) (in_hand z) []) same_phase
 
   pub many : length es ≤ n
   many = omega (arith, no_more_than_records 0 start rs, count_is f g bytes a)
@@ -97,7 +97,7 @@ module _ (f g bytes : List ℕ) (a : Appended f g bytes) where
         let time = keeps.time u in
         let clock = ap (λ (t : Trace). t.clock) keeps.trace in
         let over = open_end in
-        let last = ends rs (ap unfinished same-phase ∙ u) in
+        let last = ends rs (ap unfinished same_phase ∙ u) in
         rw (
           eq-eqb (in_hand z).end 0 over,
           eq-eqb (z.last + 1) n (omega (arith, last, count_is f g bytes a)),
@@ -106,14 +106,14 @@ module _ (f g bytes : List ℕ) (a : Appended f g bytes) where
         )
       where
         open_end : (in_hand z).end ≡ 0
-        open_end = still_open z.phase (passes (unfinished z.phase) (ap unfinished same-phase ∙ u))
+        open_end = still_open z.phase (passes (unfinished z.phase) (ap unfinished same_phase ∙ u))
 
-  pub all-ended : Each Ended c
-  all-ended = (shape 0 (trace_of start) rs refl sound).1
+  pub all_ended : Each Ended c
+  all_ended = (shape 0 (trace_of start) rs refl sound).1
 
   pub is_over_lem : unfinished s.phase ≡ false → (m : ℕ) → length es ≡ suc m → is_over (get_or es m no_shift) n ≡ true
   is_over_lem u m e =
       let all = es_are ∙ ap (λ b. c ++ with b (in_hand z) []) u ∙ append-nil c in
-      let ended = each_at Ended es (subst (Each Ended) (sym all) all-ended) m (omega arith) in
+      let ended = each_at Ended es (subst (Each Ended) (sym all) all_ended) m (omega arith) in
       let within = ((the_entries start rs).each m (omega arith)).within in
       rw (ne_eqb (get_or es m no_shift).end 0 ended, lt-ltb (get_or es m no_shift).last n (omega (arith, within, count_is f g bytes a)))

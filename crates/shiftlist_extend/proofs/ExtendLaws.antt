@@ -31,7 +31,7 @@ use Rattle.shiftlist.specs.declared.Listed.{Listed}
 use Rattle.shiftlist.specs.Shifts.{end_of, whole}
 use Rattle.shiftlist.specs.Lists.{entries_of, header_of, listed_long, refused_by, fitting}
 use Rattle.shiftlist.specs.Walks.{coded_in, holding, trace_in, in_hand, with, laid_by, size_with, laid_size, laid_in}
-use Rattle.shiftlist.proofs.WalkLaws.{whole_on, shifts_on, whole_same, shifts-same, makes}
+use Rattle.shiftlist.proofs.WalkLaws.{whole_on, shifts_on, whole_same, shifts_same, makes}
 use Rattle.shiftlist.proofs.CodeLaws.{laid_as_listed}
 use Rattle.shiftlist.proofs.LaidLaws as kernel
 use Rattle.shiftlist_extend.specs.Extending.{laid_on, grounds_by, grounds, last_entry, laid, from, size, after_run, after_grounds, extended_of, list_after}
@@ -47,8 +47,8 @@ same_trace false s e u = rw u
 pub still_open : (p : ℕ) → T (unfinished p) → end_of p ≡ 0
 still_open p u = let i = unfinished_in p u in rw (ne_eqb p 22 (λ e. omega arith), ne_eqb p 23 (λ e. omega arith))
 
-held-entry : (s : State) (e : Shift) → unfinished s.phase ≡ true → e.end ≡ 0 → e.age ≡ s.clock - e.request_time → in_hand (resumed_on s e) ≡ e
-held-entry s e u z a =
+held_entry : (s : State) (e : Shift) → unfinished s.phase ≡ true → e.end ≡ 0 → e.age ≡ s.clock - e.request_time → in_hand (resumed_on s e) ≡ e
+held_entry s e u z a =
     let q = still_open s.phase (passes (unfinished s.phase) u) in
     ap (λ (w : Walk). in_hand w) (resumes s e u)
     ∙ ap (λ k. record { first = e.first; last = e.last; kind = e.kind; route = e.route; end = k; request_time = e.request_time; age = s.clock - e.request_time }) (q ∙ sym z)
@@ -87,10 +87,10 @@ module _ (s : State) (e : Shift) (count : ℕ) (bytes : List ℕ) (h : Sound (tr
       by : (b : Bool) → unfinished s.phase ≡ b → with b (whole_on (in_hand w) count (trace_of s) rs) (shifts_on count (trace_of s) rs) ≡ laid_on b e count s rs
       by true u =
           let k = f u in
-          ap (λ (g : Shift). whole_on g count (trace_of s) rs ∷ shifts_on count (trace_of s) rs) (held-entry s e u k.0 k.1)
+          ap (λ (g : Shift). whole_on g count (trace_of s) rs ∷ shifts_on count (trace_of s) rs) (held_entry s e u k.0 k.1)
           ∙ ap (λ g. g ∷ shifts_on count (trace_of s) rs) (sym (whole_same e count s rs))
-          ∙ ap (λ es. whole e count s rs ∷ es) (sym (shifts-same count s rs))
-      by false u = sym (shifts-same count s rs)
+          ∙ ap (λ es. whole e count s rs ∷ es) (sym (shifts_same count s rs))
+      by false u = sym (shifts_same count s rs)
 
 -- ---- a refused record is one of the records
 records_less : (l : List ℕ) → 4 * length (records_in l) ≤ length l
@@ -147,8 +147,8 @@ module _ (l : List ℕ) (held : ℕ) (s : State) (count : ℕ) (t : Table) (byte
         grounded (length l) held (u32_at l 4) (u32_at l 0) (last_entry l held s count t bytes) s count (length bytes / 4)
         (most_for t) (broken_rule t) (most_between (length (entries_for t))).1 g
 
-    pub at-run : (o : Outcome) → o ≡ run t s (records_in bytes) → ¬ (o.number ≡ 0) → Leaves (refused_by o.number 0 (count + o.count) o.excess) l
-    at-run o e m =
+    pub at_run : (o : Outcome) → o ≡ run t s (records_in bytes) → ¬ (o.number ≡ 0) → Leaves (refused_by o.number 0 (count + o.count) o.excess) l
+    at_run o e m =
         let by = refused_by o.number 0 (count + o.count) o.excess in
         kept by m (ap (λ b. cond b (fitting n (length l)) by) (sym (ne_eqb o.number 0 m)) ∙ ap (after_run l held s count t bytes) e ∙ on)
 
@@ -177,10 +177,10 @@ module _ (l : List ℕ) (held : ℕ) (s : State) (count : ℕ) (t : Table) (byte
           let small : length l < n = omega (arith, h, is_size) in
           kept (refused_by 15 0 0 0) (λ q. omega arith) (ap (λ b. cond b (listed_long n) (refused_by 15 0 0 0)) (sym (lt-leb n (length l) small)) ∙ over)
 
-      was-laid :
+      was_laid :
           size_with l (place_of held s) walk count bytes ≤ length l
           → Leaves (listed_long (size_with l (place_of held s) walk count bytes)) (kernel.laid l (place_of held s) walk count bytes)
-      was-laid h =
+      was_laid h =
           let room : n ≤ length l = omega (arith, h, is_size) in
           let same : listed_long n ≡ extended_of l held s count t bytes = ap (λ b. cond b (listed_long n) (refused_by 15 0 0 0)) (sym (le-leb n (length l) room)) ∙ over in
           let zero-there = eq-eqb (extended_of l held s count t bytes).number 0 (ap (λ (q : Listed). q.number) (sym same)) in (
@@ -198,11 +198,11 @@ module _ (l : List ℕ) (held : ℕ) (s : State) (count : ℕ) (t : Table) (byte
           let e = last_entry l held s count t bytes in
           let place = in_place (length l) held (u32_at l 0) e s count (length bytes / 4) told in (
             λ q.
-                let k = kernel.none-laid l (place_of held s) walk count bytes told.few place m em q in
+                let k = kernel.none_laid l (place_of held s) walk count bytes told.few place m em q in
                 let a = not_laid k.0 in
                 (a.0, eb ∙ sym k.1 ∙ a.1),
             λ q.
                 let k = kernel.some_laid l (place_of held s) walk count bytes told.few place m em q in
-                let a = was-laid k.0 in
+                let a = was_laid k.0 in
                 (ap listed_long k.1 ∙ a.0, eb ∙ k.2 ∙ a.1),
           )

@@ -131,8 +131,8 @@ module _ (f g bytes tail : List ℕ) (a : Appended f g bytes) where
       (λ q. let y = rw (p, q) at o in absurd (omega arith)))
       (λ p. let y = rw p at o in absurd (eqb-false k 0 p y))
 
-  pub same-buffer : list_after l most end records (table_in f) bytes ≡ buffer_after g l
-  same-buffer =
+  pub same_buffer : list_after l most end records (table_in f) bytes ≡ buffer_after g l
+  same_buffer =
       let r = extended_of l most end records (table_in f) bytes in
       let new-list = list_of (shifts_of g) ++ drop (size_for (shifts_of g)) l in
       let old-list = sets (sets l 0 (bytes_of (header_of ((longer - 8) / 16)))) (from l most end records (table_in f) bytes) (bytes_of (entries_of laid)) in
@@ -158,7 +158,7 @@ pub equals_fresh :
     → (extended_of l held end count t bytes ≡ built_of g (length l')) × (list_after l held end count t bytes ≡ buffer_after g l')
 equals_fresh f tail l held end count t bytes g l' h =
     rw (h.buffer', h.buffer, h.held_is, h.state_is, h.count_is, h.table_is)
-    (same_answer f g bytes tail h.appended, same-buffer f g bytes tail h.appended)
+    (same_answer f g bytes tail h.appended, same_buffer f g bytes tail h.appended)
 
 -- of calls of `extend` and of `build`, whatever their contracts allow
 module _

@@ -25,14 +25,14 @@ use Rattle.shiftlist.specs.declared.Shift.{Shift}
 use Rattle.shiftlist.specs.Shifts.{whole, shifts_from}
 use Rattle.shiftlist.specs.Lists.{list_of, shifts_of, size_for, shift_at, no_shift}
 use Rattle.shiftlist.specs.Walks.{trace_in, in_hand, with}
-use Rattle.shiftlist.proofs.WalkLaws.{whole_on, shifts_on, whole_same, shifts-same, makes}
+use Rattle.shiftlist.proofs.WalkLaws.{whole_on, shifts_on, whole_same, shifts_same, makes}
 use Rattle.shiftlist.proofs.Extended.{sound_pieces, end_trace, grows}
 use Rattle.shiftlist.proofs.BuildLaws.{begin}
 use Rattle.shiftlist.proofs.ListLaws.{list_long}
 use Rattle.shiftlist.proofs.WidthLaws.{shifts_of_a_file, entries_of_a_file_fit}
 use Rattle.shiftlist_extend.specs.Extending.{is_open, is_over, fits, laid_on, grounds, last_entry, laid, from, size}
 use Rattle.shiftlist_extend.proofs.GroundLaws.{last_ground}
-use Rattle.shiftlist_extend.proofs.RelaidLaws.{last-read}
+use Rattle.shiftlist_extend.proofs.RelaidLaws.{last_read}
 use Rattle.shiftlist_extend.proofs.AppendedLaws.{Appended, count_is, readings_are, few_records, admitted, further, all_sound}
 use Rattle.shiftlist_extend.proofs.EndLaws.{es, rs, s, n, c, z, keeps, es_are, many, one_more, last_is, is_open_lem, is_over_lem}
 
@@ -60,8 +60,8 @@ module _ (f g bytes tail : List ℕ) (a : Appended f g bytes) where
   few = shifts_of_a_file f a.accepted
 
   -- ---- what is read of it
-  count-read : u32_at list 0 ≡ length old
-  count-read =
+  count_read : u32_at list 0 ≡ length old
+  count_read =
       let m = length old in
       let small = few in
       let e : m % 65536 % 256 + 256 * (m % 65536 / 256) + 65536 * (m / 65536 % 256 + 256 * (m / 65536 / 256)) ≡ m = omega arith in
@@ -73,7 +73,7 @@ module _ (f g bytes tail : List ℕ) (a : Appended f g bytes) where
   last_there : (m : ℕ) → length old ≡ suc m → last ≡ get_or old m no_shift
   last_there m e =
       let place : held - 16 ≡ 8 + 16 * m = omega (arith, e) in
-      ap (shift_at list) place ∙ last-read old m tail e (entries_of_a_file_fit f a.accepted m (omega (arith, e)))
+      ap (shift_at list) place ∙ last_read old m tail e (entries_of_a_file_fit f a.accepted m (omega (arith, e)))
 
   pub open_last : unfinished end.phase ≡ true → last ≡ in_hand (z f g bytes a)
   open_last u = last_there (length over) (one_more f g bytes a u) ∙ last_is f g bytes a u
@@ -97,8 +97,8 @@ module _ (f g bytes tail : List ℕ) (a : Appended f g bytes) where
       let long = list_long old in
       let all = length-append (list_of old) tail in
       sym (last_ground (length list) held (u32_at list 4) (u32_at list 0) last end records (length bytes / 4) (most_for (table_in f)) (broken_rule (table_in f)) (omega (arith, long, all)) (omega arith)
-      refl (omega (arith, count-read)) (few_records f g bytes a) (omega (arith, count-read, many f g bytes a)) (admitted f g bytes a) true
-      (ap (λ k. fits k last end records) count-read ∙ fit))
+      refl (omega (arith, count_read)) (few_records f g bytes a) (omega (arith, count_read, many f g bytes a)) (admitted f g bytes a) true
+      (ap (λ k. fits k last end records) count_read ∙ fit))
 
   -- ---- the entries that are laid
   abbrev pub new : List Shift
@@ -122,7 +122,7 @@ module _ (f g bytes tail : List ℕ) (a : Appended f g bytes) where
       let sound-there = subst (λ t. Sound t ys) (sym (end_trace begin 0 xs)) (sound_pieces (trace_of start) xs ys h).1 in
       let number : 0 + length xs ≡ records = omega (arith, count_is f g bytes a) in
       ap (λ q. shifts_from 0 start q) (readings_are f g bytes a)
-      ∙ shifts-same 0 start (xs ++ ys)
+      ∙ shifts_same 0 start (xs ++ ys)
       ∙ grows 0 (trace_of start) xs ys refl h
       ∙ ap (λ q. over ++ q)
       (makes w (0 + length xs) ys sound-there
@@ -138,8 +138,8 @@ module _ (f g bytes tail : List ℕ) (a : Appended f g bytes) where
           let ys = records_in bytes in
           ap (λ (e : Shift). whole_on e records (trace_of end) ys ∷ shifts_on records (trace_of end) ys) (sym (open_last u))
           ∙ ap (λ e. e ∷ shifts_on records (trace_of end) ys) (sym (whole_same last records end ys))
-          ∙ ap (λ q. whole last records end ys ∷ q) (sym (shifts-same records end ys))
-      by false u = sym (shifts-same records end (records_in bytes))
+          ∙ ap (λ q. whole last records end ys ∷ q) (sym (shifts_same records end ys))
+      by false u = sym (shifts_same records end (records_in bytes))
 
   pub size_is : (further f g bytes a).number ≡ 0 → size list held end records (table_in f) bytes ≡ size_for (shifts_of g)
   size_is accepted =

@@ -93,8 +93,8 @@ module _ (l : List ℕ) (held : ℕ) (s : State) (count : ℕ) where
       (eq→eqb e.request_time s.request_time (same_32 l (place + 8) ∙ x.time))
       (eq→eqb e.age (s.clock - s.request_time) (same_32 l (place + 12) ∙ x.age))))
 
-  over-entry : T (is_over e count) → OverEntry l place count
-  over-entry t = record {
+  over_entry : T (is_over e count) → OverEntry l place count
+  over_entry t = record {
     end = neqb→ne e.end 0 (left (not a) (ltb e.last count) t);
     last = ltb→lt e.last count (right (not a) (ltb e.last count) t);
   }
@@ -118,7 +118,7 @@ module _ (l : List ℕ) (held : ℕ) (s : State) (count : ℕ) where
       record {
         in_midst = λ m. absurd (outside s u m);
         outside = λ _.
-            ⊎_elim (λ z. inl (sym same ∙ eqb→eq shifts 0 z)) (λ o. inr (over-entry o)) (either (eqb shifts 0) (is_over e count) q);
+            ⊎_elim (λ z. inl (sym same ∙ eqb→eq shifts 0 z)) (λ o. inr (over_entry o)) (either (eqb shifts 0) (is_over e count) q);
       })
 
   fit_passes : Fit l held s count → T (fits shifts e s count)
@@ -247,8 +247,8 @@ module _ (bytes : List ℕ) where
           in
           subst (FarBy o.number) (sym exact.over) (subst (λ (k : ℕ). FarBy k (excess t o.state r k)) (exact.refused n).1 far)
 
-    pub records-answer : RecordsAnswer t s bytes (records_in bytes) o
-    records-answer = record {
+    pub records_answer : RecordsAnswer t s bytes (records_in bytes) o
+    records_answer = record {
       held = bytes_hold;
       exact = exact;
       refused = λ n.

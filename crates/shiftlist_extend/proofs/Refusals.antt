@@ -32,12 +32,12 @@ use Rattle.shiftlist.proofs.CodeLaws.{as_many}
 use Rattle.shiftlist.proofs.EntryLaws.{the_entries}
 use Rattle.shiftlist.proofs.ListLaws.{entries_long}
 use Rattle.shiftlist.proofs.Refusals.{same_32}
-use Rattle.shiftlist.proofs.WalkLaws.{shifts-same}
+use Rattle.shiftlist.proofs.WalkLaws.{shifts_same}
 use Rattle.shiftlist_extend.specs.Extending.{fits, grounds, last_entry, laid, from, size, after_grounds, extended_of, list_after}
 use Rattle.shiftlist_extend.specs.Refusals.{Midst, LongerTakes, NoRecord, Keeps, ExtendAnswers}
 use Rattle.shiftlist_extend.proofs.GroundLaws.{has_one, in_place}
-use Rattle.shiftlist_extend.proofs.ExtendLaws.{told, at_ground, at-run}
-use Rattle.shiftlist_extend.proofs.RefusalLaws.{midst, grounds_in_order, records-answer, before_stores, behind_stores}
+use Rattle.shiftlist_extend.proofs.ExtendLaws.{told, at_ground, at_run}
+use Rattle.shiftlist_extend.proofs.RefusalLaws.{midst, grounds_in_order, records_answer, before_stores, behind_stores}
 use Rattle.shiftlist_extend.proofs.extend.Reads as extend_reads
 
 not_4 : (b : Bool) (x : ℕ) → x ≡ cond b 0 14 → ¬ (x ≡ 4)
@@ -74,7 +74,7 @@ module _ (l : List ℕ) (held : ℕ) (s : State) (count : ℕ) (t : Table) (byte
   -- from whatever number they are counted, there are as many
   as_many_from : (i : ℕ) → length (shifts_from i s rs) ≡ length (shifts_from 0 s rs)
   as_many_from i =
-      ap length (shifts-same i s rs) ∙ as_many i (trace_of s) rs ∙ sym (ap length (shifts-same 0 s rs) ∙ as_many 0 (trace_of s) rs)
+      ap length (shifts_same i s rs) ∙ as_many i (trace_of s) rs ∙ sym (ap length (shifts_same 0 s rs) ∙ as_many 0 (trace_of s) rs)
 
   the_size : k ≡ 0 → n ≡ longer
   the_size g =
@@ -94,7 +94,7 @@ module _ (l : List ℕ) (held : ℕ) (s : State) (count : ℕ) (t : Table) (byte
 
   module _ (g : k ≡ 0) where
     on_run : ¬ (o.number ≡ 0) → refused_by o.number 0 (count + o.count) o.excess ≡ r
-    on_run m = (at-run l held s count t bytes g o refl m).0
+    on_run m = (at_run l held s count t bytes g o refl m).0
 
     module _ (z : o.number ≡ 0) where
       on_room : fitting n (length l) ≡ r
@@ -152,7 +152,7 @@ module _ (l : List ℕ) (held : ℕ) (s : State) (count : ℕ) (t : Table) (byte
       record { rule_for = without_rule 15 (λ e. omega arith); numbers = omega arith; refused = λ _. refl; extended = λ e. absurd (omega arith) }))
       (λ b.
       let m = eqb-false o.number 0 b in
-      let x = (records-answer bytes t s).refused m in
+      let x = (records_answer bytes t s).refused m in
       let low = x.2 in
       let high = x.3 in
       subst Closing (on_run g m)
@@ -205,7 +205,7 @@ module _ (l : List ℕ) (held : ℕ) (s : State) (count : ℕ) (t : Table) (byte
     first = grounds_in_order l held s count t bytes;
     records = rs;
     outcome = o;
-    judged = records-answer bytes t s;
+    judged = records_answer bytes t s;
     size = longer;
     takes = takes;
     by_ground = λ m. subst (λ (q : Listed). (q.number ≡ k) × NoRecord q) (on_ground m) (refl, (refl, refl));

@@ -66,10 +66,10 @@ from_there m c tail =
 pub all_but_last : (es : List Shift) (m : ℕ) → length es ≡ suc m → take m es ++ (get_or es m no_shift ∷ []) ≡ es
 all_but_last es m e = sym (take-suc es m no_shift (omega arith)) ∙ take_all (suc m) es (omega arith)
 
-pub last-read :
+pub last_read :
     (es : List Shift) (m : ℕ) (tail : List ℕ) → length es ≡ suc m → Fits (get_or es m no_shift)
     → shift_at (list_of es ++ tail) (8 + 16 * m) ≡ get_or es m no_shift
-last-read es m tail e f =
+last_read es m tail e f =
     let c = take m es in
     let x = get_or es m no_shift ∷ [] in
     let all = all_but_last es m e in

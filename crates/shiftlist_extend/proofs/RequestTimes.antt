@@ -96,10 +96,10 @@ keeps_to_the_end s w i (WrongCode ∷ xs) h k = absurd h
 keeps_to_the_end s w i (WrongAmount ∷ xs) h k = absurd h
 
 -- ---- the last record that it went over
-further-last : (k : ℕ) (w : Walk) (i : ℕ) (b : Bool) (t : Trace) → (further k w i b t).last ≡ i
-further-last zero w i b t = refl
-further-last (suc k) w i b t = refl
+further_last : (k : ℕ) (w : Walk) (i : ℕ) (b : Bool) (t : Trace) → (further k w i b t).last ≡ i
+further_last zero w i b t = refl
+further_last (suc k) w i b t = refl
 
 pub last_there : (w : Walk) (i : ℕ) (r : Reading) (rs : List Reading) → (at_end w i (r ∷ rs)).last + 1 ≡ i + length (r ∷ rs)
-last_there w i r [] = let e = further-last (kind_of r) w i (asks r) (after (trace_in w) r) in omega arith
+last_there w i r [] = let e = further_last (kind_of r) w i (asks r) (after (trace_in w) r) in omega arith
 last_there w i r (q ∷ rs) = let h = last_there (walked w i r) (suc i) q rs in omega arith

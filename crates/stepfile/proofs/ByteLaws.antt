@@ -19,5 +19,5 @@ stored l f n i h =
     let next : 12 + 2 * (i + 1) ≡ 12 + 2 * i + 2 = omega arith in
     rw (more, next, add-one i)
 
-pub all-stored : (l f : List ℕ) (n i : ℕ) → n ≤ i → sets l i (u16s_at f (12 + 2 * i) (n - i)) ≡ l
-all-stored l f n i h = let none : n - i ≡ 0 = omega arith in rw none
+pub all_stored : (l f : List ℕ) (n i : ℕ) → n ≤ i → sets l i (u16s_at f (12 + 2 * i) (n - i)) ≡ l
+all_stored l f n i h = let none : n - i ≡ 0 = omega arith in rw none

@@ -48,11 +48,11 @@ module _ (k : ℕ) where
   pub most_between : (16370 ≤ most_records k) × (most_records k ≤ 16372)
   most_between = case (eqb k 22) (λ e. rw e (omega arith)) (λ e. rw e (omega arith))
 
-  pub past-most : (n : ℕ) → most_records k < n → TooMany k n
-  past-most n h = case (eqb k 22) (λ e. inr (eqb-true k 22 e, rw e at h)) (λ e. inl (rw e at h))
+  pub past_most : (n : ℕ) → most_records k < n → TooMany k n
+  past_most n h = case (eqb k 22) (λ e. inr (eqb-true k 22 e, rw e at h)) (λ e. inl (rw e at h))
 
-  pub within-most : (n : ℕ) → n ≤ most_records k → ¬ TooMany k n
-  within-most n h =
+  pub within_most : (n : ℕ) → n ≤ most_records k → ¬ TooMany k n
+  within_most n h =
       ⊎_elim (λ l. omega (arith, most_between)) (λ l. let m = rw (eq-eqb k 22 l.0) at h in omega (arith, l.1))
 
 -- ---- the entries that a table is written with
@@ -79,29 +79,29 @@ module _ (t : Table) where
   abbrev with_delays : ℕ → ℕ → ℕ → ℕ → Table
   with_delays a b c d = table_of (limits t ++ (a ∷ b ∷ c ∷ d ∷ []))
 
-  pub same-table : table_of (entries_for t) ≡ t
-  same-table =
+  pub same_table : table_of (entries_for t) ≡ t
+  same_table =
       ⊎_elim
       (λ n.
       ap table_of (in_eighteen n)
       ∙ sym (ap (λ a. with_delays a t.error_clutch_open_de t.clutch_close_de t.error_clutch_close_de) n.plain_open
       ∙ ap (λ b. with_delays 0 b t.clutch_close_de t.error_clutch_close_de) n.error_open
-      ∙ ap (λ c. with_delays 0 0 c t.error_clutch_close_de) n.plain-close
-      ∙ ap (λ d. with_delays 0 0 0 d) n.error-close))
+      ∙ ap (λ c. with_delays 0 0 c t.error_clutch_close_de) n.plain_close
+      ∙ ap (λ d. with_delays 0 0 0 d) n.error_close))
       (λ n. ap table_of (in_twenty_two n))
       delays
 
-  pub entries-taken : take (length (entries_for t)) (entries t) ≡ entries_for t
-  entries-taken = ⊎_elim (λ n. rw (in_eighteen n)) (λ n. rw (in_twenty_two n)) delays
+  pub entries_taken : take (length (entries_for t)) (entries t) ≡ entries_for t
+  entries_taken = ⊎_elim (λ n. rw (in_eighteen n)) (λ n. rw (in_twenty_two n)) delays
 
   pub no_more_than_22 : length (entries_for t) ≤ 22
   no_more_than_22 = at_most_22 (length (entries_for t)) (inr how_many)
 
 -- ---- of a wish
-pub written-with : (w : Wish) → WrittenWith w (length (entries_for (wished w)))
-written-with (Given t) =
+pub written_with : (w : Wish) → WrittenWith w (length (entries_for (wished w)))
+written_with (Given t) =
     ⊎_elim (λ n. inl (n, ap length (in_eighteen t n))) (λ n. inr (n, ap length (in_twenty_two t n))) (delays t)
-written-with NoTable = refl
+written_with NoTable = refl
 
 pub with_no_others : (w : Wish) (k : ℕ) → WrittenWith w k → k ≡ length (entries_for (wished w))
 with_no_others (Given t) k (inl h) = h.1 ∙ sym (ap length (in_eighteen t h.0))

@@ -8,7 +8,7 @@ use native.Mathlib.Omega.{arith}
 use lib.Dec.{T, eqb}
 use borrow.Author.Tests.{eq-eqb, ne_eqb}
 use Rattle.checks.specs.Checks.{Check, ◌!◌, first}
-use Rattle.checks.proofs.Checks.{Holds, absent, first→holds, first-left, first_right}
+use Rattle.checks.proofs.Checks.{Holds, absent, first→holds, first_left, first_right}
 use Rattle.limits.specs.Rules.{broken_rule}
 use Rattle.stepfile.specs.Files.{headed, table_in, checks, refusing, refusal_of}
 
@@ -33,7 +33,7 @@ module _ (cs : List Check) (r : ℕ) where
   stopped_before : {h : ℕ} → T (absent 4 cs) → h ≡ first cs → ¬ (h ≡ 0) → record { number = h; rule = 0 } ≡ refusing whole r
   stopped_before {h} a e n =
       let other : ¬ (h ≡ 4) = λ z. let q = (first→holds 4 cs a (sym e ∙ z)).1 in omega arith in
-      let same : h ≡ whole = e ∙ sym (first-left cs ((eqb r 0 ! 4) ∷ []) (λ z. n (e ∙ z))) in
+      let same : h ≡ whole = e ∙ sym (first_left cs ((eqb r 0 ! 4) ∷ []) (λ z. n (e ∙ z))) in
       let own : record { number = h; rule = 0 } ≡ refusing h r = rw (ne_eqb h 4 other) in
       own ∙ ap (λ k. refusing k r) same
 

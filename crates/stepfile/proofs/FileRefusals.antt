@@ -11,7 +11,7 @@ use lib.ListN.{length}
 use borrow.Author.Tests.{eqb-true, eqb-false, eq-eqb, ne_eqb}
 use Rattle.checks.specs.Checks.{Check, ◌!◌, first}
 use Rattle.checks.specs.Conditions.{Condition, ◌gives◌, ◌else◌, FirstOf}
-use Rattle.checks.proofs.Checks.{Holds, first→holds, first-append, first-left, first_right, at_most}
+use Rattle.checks.proofs.Checks.{Holds, first→holds, first-append, first_left, first_right, at_most}
 use Rattle.checks.proofs.ConditionLaws.{first_of, of_left, of_right}
 use Rattle.checks.proofs.Tests.{tests, case, neqb→ne}
 use Rattle.limits.specs.declared.Table.{Table}
@@ -20,7 +20,7 @@ use Rattle.limits.specs.Refusals.{broken, Admitted}
 use Rattle.limits.proofs.Refusals.{in_order, at_most_16, admitted, not_admitted}
 use Rattle.stepfile.specs.Files.{headed, table_in, checks, refusal_of}
 use Rattle.stepfile.specs.Refusals.{RuleFor, bits16, bits32, short_table, long_table, table_behind, TooMany, file_refusals, FileAnswers}
-use Rattle.stepfile.proofs.EntryLaws.{Few, few, others, past-most, within-most}
+use Rattle.stepfile.proofs.EntryLaws.{Few, few, others, past_most, within_most}
 use Rattle.stepfile.proofs.TableLaws.{with_twenty_two, with_eighteen, without_entries}
 
 -- the rule's number, with 4 and without
@@ -64,7 +64,7 @@ module _ (f : List ℕ) where
             (
               omega (arith, tests),
               (
-                (λ t. past-most k (bits32 f 8) (omega (arith, tests)), (λ t. within-most k (bits32 f 8) (omega (arith, tests)), refl)),
+                (λ t. past_most k (bits32 f 8) (omega (arith, tests)), (λ t. within_most k (bits32 f 8) (omega (arith, tests)), refl)),
                 omega (arith, tests),
               ),
             ),
@@ -79,8 +79,8 @@ module _ (f : List ℕ) where
   abbrev table_refusals : List Condition
   table_refusals = ((¬ (k ≡ 0) → Admitted (table_behind f)) else 4) ∷ []
 
-  has-entries : ¬ (broken_rule (table_in f) ≡ 0) → ¬ (k ≡ 0)
-  has-entries n e = n (ap broken_rule (without_entries f e))
+  has_entries : ¬ (broken_rule (table_in f) ≡ 0) → ¬ (k ≡ 0)
+  has_entries n e = n (ap broken_rule (without_entries f e))
 
   module _ (h : Holds (headed f)) where
     as_many : Few k → ¬ (k ≡ 0) → table_in f ≡ table_behind f
@@ -90,8 +90,8 @@ module _ (f : List ℕ) where
     as_many (inr (inr e)) n =
         with_twenty_two f (omega (arith, tests)) e ∙ sym (ap (λ b. cond b (long_table f) (short_table f)) (eq-eqb k 22 e))
 
-    with-table : ¬ (k ≡ 0) → table_in f ≡ table_behind f
-    with-table = as_many (few k h.1.1.0)
+    with_table : ¬ (k ≡ 0) → table_in f ≡ table_behind f
+    with_table = as_many (few k h.1.1.0)
 
     table_in_order : FirstOf table_refusals (first (tested ∷ []))
     table_in_order =
@@ -99,10 +99,10 @@ module _ (f : List ℕ) where
           (
             λ t all.
                 let n = neqb→ne (broken_rule (table_in f)) 0 t in
-                let e = has-entries n in
-                not_admitted (table_behind f) (λ z. n (ap broken_rule (with-table e) ∙ z)) (all e),
+                let e = has_entries n in
+                not_admitted (table_behind f) (λ z. n (ap broken_rule (with_table e) ∙ z)) (all e),
             (
-              λ t n. n (λ e. admitted (table_behind f) (ap broken_rule (sym (with-table e)) ∙ eqb→eq (broken_rule (table_in f)) 0 t)),
+              λ t n. n (λ e. admitted (table_behind f) (ap broken_rule (sym (with_table e)) ∙ eqb→eq (broken_rule (table_in f)) 0 t)),
               refl,
             ),
           ),
@@ -121,7 +121,7 @@ module _ (f : List ℕ) where
       (table_in_order h)))
       (λ t.
       let n = eqb-false (first (headed f)) 0 t in
-      rw (first-left (headed f) (tested ∷ []) n)
+      rw (first_left (headed f) (tested ∷ []) n)
       (of_left header_refusals table_refusals (first (headed f)) n header_in_order))
 
   -- with 4 the header is as it should be and the table has entries
@@ -130,7 +130,7 @@ module _ (f : List ℕ) where
       let h = first-append 4 (headed f) (tested ∷ []) tt e in
       let same : (refusal_of f).rule ≡ broken_rule (table_in f) = rw (eq-eqb (refusal_of f).number 4 e) in
       let n : ¬ (broken_rule (table_in f) ≡ 0) = λ z. let q = rw (eq-eqb (broken_rule (table_in f)) 0 z) at h.1 in omega arith in
-      (same ∙ ap broken_rule (with-table h.0 (has-entries n)), λ z. n (sym same ∙ z))
+      (same ∙ ap broken_rule (with_table h.0 (has_entries n)), λ z. n (sym same ∙ z))
 
   pub file_answers : FileAnswers f (refusal_of f).number (refusal_of f).rule
   file_answers =

@@ -32,12 +32,12 @@ module _ (b n : ℕ) (x : Step) where
   tested q s e = eqb→eq b 0 (left (eqb b 0) q (passes (eqb b 0 && q) (chosen (eqb b 0 && q) s e)))
 
   -- by place in a list of readings that ends with the tick's and the reset's
-  middle-from : (ss : List Step) (c : ℕ) → get_or (map (λ s. plain s b n) ss ++ (ticking b n ∷ plain Reset b n ∷ [])) c WrongCode ≡ Means x → b ≡ 0
-  middle-from [] zero e = tested (leb 1 n && leb n 65535) (Tick n) e
-  middle-from [] (suc zero) e = tested (eqb n 0) Reset e
-  middle-from [] (suc (suc c)) e = no_step e
-  middle-from (s ∷ ss) zero e = tested (eqb n 0) s e
-  middle-from (s ∷ ss) (suc c) e = middle-from ss c e
+  middle_from : (ss : List Step) (c : ℕ) → get_or (map (λ s. plain s b n) ss ++ (ticking b n ∷ plain Reset b n ∷ [])) c WrongCode ≡ Means x → b ≡ 0
+  middle_from [] zero e = tested (leb 1 n && leb n 65535) (Tick n) e
+  middle_from [] (suc zero) e = tested (eqb n 0) Reset e
+  middle_from [] (suc (suc c)) e = no_step e
+  middle_from (s ∷ ss) zero e = tested (eqb n 0) s e
+  middle_from (s ∷ ss) (suc c) e = middle_from ss c e
 
   abbrev plains : List Step
   plains =
@@ -56,7 +56,7 @@ module _ (b n : ℕ) (x : Step) where
 
   middle : (c : ℕ) → reading c b n ≡ Means x → b ≡ 0
   middle zero e = no_step e
-  middle (suc c) e = middle-from plains c e
+  middle (suc c) e = middle_from plains c e
 
 -- ---- of records that all mean steps the first one does, and so do the others
 module _ (a b c d : ℕ) (rs : List Reading) where
@@ -93,30 +93,30 @@ one_written a b c d l h k z =
     let s : (c + 256 * d) / 256 ≡ d = omega arith in
     rw (p, q, r, s)
 
-pub records-written :
+pub records_written :
     (n : ℕ) (l : List ℕ) → length l ≡ 4 * n → Bytes l → AllRead (records_in l)
     → bytes_of (records_of (codes_of l) (amounts_of l)) ≡ l
-records-written n [] e h all = refl
-records-written n (a ∷ []) e h all = absurd (omega arith)
-records-written n (a ∷ b ∷ []) e h all = absurd (omega arith)
-records-written n (a ∷ b ∷ c ∷ []) e h all = absurd (omega arith)
-records-written zero (a ∷ b ∷ c ∷ d ∷ l) e h all = absurd (omega arith)
-records-written (suc n) (a ∷ b ∷ c ∷ d ∷ l) e h all =
+records_written n [] e h all = refl
+records_written n (a ∷ []) e h all = absurd (omega arith)
+records_written n (a ∷ b ∷ []) e h all = absurd (omega arith)
+records_written n (a ∷ b ∷ c ∷ []) e h all = absurd (omega arith)
+records_written zero (a ∷ b ∷ c ∷ d ∷ l) e h all = absurd (omega arith)
+records_written (suc n) (a ∷ b ∷ c ∷ d ∷ l) e h all =
     let rest = later a b c d (records_in l) (record_of a b c d) all in
     let zero-byte = its_middle a b c d (records_in l) (record_of a b c d) refl all in
     one_written a b c d (bytes_of (records_of (codes_of l) (amounts_of l))) (h 0) (h 2) zero-byte
-    ∙ ap (λ t. a ∷ b ∷ c ∷ d ∷ t) (records-written n l (omega arith) (λ i. h (suc (suc (suc (suc i))))) rest)
+    ∙ ap (λ t. a ∷ b ∷ c ∷ d ∷ t) (records_written n l (omega arith) (λ i. h (suc (suc (suc (suc i))))) rest)
 
-pub none-wrong : (i : ℕ) (l : List ℕ) → AllRead (records_in l) → (first_wrong i (codes_of l) (amounts_of l)).number ≡ 0
-none-wrong i [] all = refl
-none-wrong i (a ∷ []) all = refl
-none-wrong i (a ∷ b ∷ []) all = refl
-none-wrong i (a ∷ b ∷ c ∷ []) all = refl
-none-wrong i (a ∷ b ∷ c ∷ d ∷ l) all =
+pub none_wrong : (i : ℕ) (l : List ℕ) → AllRead (records_in l) → (first_wrong i (codes_of l) (amounts_of l)).number ≡ 0
+none_wrong i [] all = refl
+none_wrong i (a ∷ []) all = refl
+none_wrong i (a ∷ b ∷ []) all = refl
+none_wrong i (a ∷ b ∷ c ∷ []) all = refl
+none_wrong i (a ∷ b ∷ c ∷ d ∷ l) all =
     let r = record_of a b c d in
     let n = c + 256 * d in
     let reads : refusal (reading a 0 n) ≡ 0 =
     ap (λ m. refusal (reading a m n)) (sym (its_middle a b c d (records_in l) r refl all)) ∙ its_refusal a b c d (records_in l) r all
     in
     ap (λ k. (wrong_or k i (first_wrong (suc i) (codes_of l) (amounts_of l))).number) reads
-    ∙ none-wrong (suc i) l (later a b c d (records_in l) r all)
+    ∙ none_wrong (suc i) l (later a b c d (records_in l) r all)

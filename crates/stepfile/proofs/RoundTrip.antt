@@ -19,12 +19,12 @@ use Rattle.stepfile.specs.Records.{record_of, every_four, records_in}
 use Rattle.stepfile.specs.Files.{table_entries, record_offset, record_count, most_records, headed, table_in, refusal_of, record_bytes, readings_of}
 use Rattle.stepfile.specs.Writing.{entries_for, most_for, header_of, records_of, file_with, file_of, first_wrong, lists, writable}
 use Rattle.stepfile.specs.RoundTrip.{Bytes, readings_by, AllRead, codes_of, amounts_of, OtherEntries, codes_in, amounts_in}
-use Rattle.stepfile.proofs.EntryLaws.{Few, at_most_22, how_many, same-table}
+use Rattle.stepfile.proofs.EntryLaws.{Few, at_most_22, how_many, same_table}
 use Rattle.stepfile.proofs.WritingLaws.{size}
-use Rattle.stepfile.proofs.TableLaws.{dropped, read_back, entries-back, offset_back, count-back, with_twenty_two, with_eighteen, headed_well, well, records-from, behind}
-use Rattle.stepfile.proofs.StepLaws.{records-back, all_read}
-use Rattle.stepfile.proofs.ReadLaws.{counted, records-written, none-wrong}
-use Rattle.stepfile.proofs.WholeLaws.{GoodFile, good-file, numbers_written, length-u16s_at, six, others_in_eighteen, entries_in, no_more_than_written, assembled}
+use Rattle.stepfile.proofs.TableLaws.{dropped, read_back, entries_back, offset_back, count_back, with_twenty_two, with_eighteen, headed_well, well, records_from, behind}
+use Rattle.stepfile.proofs.StepLaws.{records_back, all_read}
+use Rattle.stepfile.proofs.ReadLaws.{counted, records_written, none_wrong}
+use Rattle.stepfile.proofs.WholeLaws.{GoodFile, good_file, numbers_written, length-u16s_at, six, others_in_eighteen, entries_in, no_more_than_written, assembled}
 
 -- ---- a file with entries, codes and amounts
 module _ (es cs ns : List ℕ) (e : length cs ≡ length ns) where
@@ -35,7 +35,7 @@ module _ (es cs ns : List ℕ) (e : length cs ≡ length ns) where
   rest = es ++ records_of cs ns
 
   entries_of : table_entries f ≡ length es
-  entries_of = entries-back (length es) (length cs) rest
+  entries_of = entries_back (length es) (length cs) rest
 
   u16s_of : u16s_at f 12 (length es) ≡ es
   u16s_of = sym (dropped f 12 0 (length es)) ∙ read_back es (records_of cs ns)
@@ -51,7 +51,7 @@ module _ (es cs ns : List ℕ) (e : length cs ≡ length ns) where
       let s = size es cs ns e in
       let a = entries_of in
       let b = offset_back (length es) (length cs) rest in
-      let c = count-back (length es) (length cs) rest in
+      let c = count_back (length es) (length cs) rest in
       headed_well
       (length f)
       12
@@ -66,7 +66,7 @@ module _ (es cs ns : List ℕ) (e : length cs ≡ length ns) where
 
   record_bytes_lem : (refusal_of f).number ≡ 0 → record_bytes f ≡ bytes_of (records_of cs ns)
   record_bytes_lem z =
-      records-from f z (omega (arith, size es cs ns e))
+      records_from f z (omega (arith, size es cs ns e))
       ∙ ap (λ i. drop i f) (offset_back (length es) (length cs) rest)
       ∙ behind (length es) (length cs) es (records_of cs ns) refl
 
@@ -85,7 +85,7 @@ module _ (t : Table) (cs ns : List ℕ) (e : first (writable t cs ns) ≡ 0) whe
   written_in_so_many = entries_of (entries_for t) cs ns (known t cs ns e).0
 
   pub written_reads_back_the_table : table_in (file_of t cs ns) ≡ t
-  written_reads_back_the_table = table_of_lem (entries_for t) cs ns (known t cs ns e).0 (how_many t) ∙ same-table t
+  written_reads_back_the_table = table_of_lem (entries_for t) cs ns (known t cs ns e).0 (how_many t) ∙ same_table t
 
   pub written_is_good : (refusal_of (file_of t cs ns)).number ≡ 0
   written_is_good =
@@ -97,10 +97,10 @@ module _ (t : Table) (cs ns : List ℕ) (e : first (writable t cs ns) ≡ 0) whe
 
   pub written_reads_back_the_steps : (first_wrong 0 cs ns).number ≡ 0 → readings_of (file_of t cs ns) ≡ readings_by cs ns
   written_reads_back_the_steps r =
-      ap records_in (record_bytes_lem (entries_for t) cs ns (known t cs ns e).0 written_is_good) ∙ records-back 0 cs ns r
+      ap records_in (record_bytes_lem (entries_for t) cs ns (known t cs ns e).0 written_is_good) ∙ records_back 0 cs ns r
 
-  pub written-steps-all-read : (first_wrong 0 cs ns).number ≡ 0 → AllRead (readings_by cs ns)
-  written-steps-all-read r = all_read 0 cs ns r
+  pub written_steps_all_read : (first_wrong 0 cs ns).number ≡ 0 → AllRead (readings_by cs ns)
+  written_steps_all_read r = all_read 0 cs ns r
 
 -- ---- any admitted table, also one whose delays are 0, reads back from twenty-two entries
 pub twenty_two_entries_read_back :
@@ -111,12 +111,12 @@ twenty_two_entries_read_back t cs ns b e m r =
     let es = entries t in
     let same = table_of_lem es cs ns e (inr refl) in
     let good = well (file_with es cs ns) (header_is_good es cs ns e (inr (inr refl)) m) (ap broken_rule same ∙ b) in
-    (entries_of es cs ns e, good, same, ap records_in (record_bytes_lem es cs ns e good) ∙ records-back 0 cs ns r)
+    (entries_of es cs ns e, good, same, ap records_in (record_bytes_lem es cs ns e good) ∙ records_back 0 cs ns r)
 
 -- ---- a good file whose records are all steps, taken apart
 module _ (f : List ℕ) (b : Bytes f) (e : (refusal_of f).number ≡ 0) (all : AllRead (readings_of f)) where
   good : GoodFile f
-  good = good-file f e
+  good = good_file f e
 
   abbrev ends : ℕ
   ends = 12 + 2 * table_entries f
@@ -127,7 +127,7 @@ module _ (f : List ℕ) (b : Bytes f) (e : (refusal_of f).number ≡ 0) (all : A
   records_in_lem : record_bytes f ≡ records
   records_in_lem =
       let w = good.whole in
-      records-from f e (omega arith) ∙ ap (λ i. drop i f) good.follow
+      records_from f e (omega arith) ∙ ap (λ i. drop i f) good.follow
 
   records-length : length records ≡ 4 * record_count f
   records-length = let w = good.whole in let d = length-drop ends f in omega arith
@@ -139,37 +139,37 @@ module _ (f : List ℕ) (b : Bytes f) (e : (refusal_of f).number ≡ 0) (all : A
   counted_in : (each : ℕ → ℕ → ℕ → ℕ → ℕ) → length (every_four each (record_bytes f)) ≡ record_count f
   counted_in each = ap (λ l. length (every_four each l)) records_in_lem ∙ counted each (record_count f) records records-length
 
-  codes-count : length (codes_in f) ≡ record_count f
-  codes-count = counted_in _
+  codes_count : length (codes_in f) ≡ record_count f
+  codes_count = counted_in _
 
   as_long : length (codes_in f) ≡ length (amounts_in f)
-  as_long = codes-count ∙ sym (counted_in _)
+  as_long = codes_count ∙ sym (counted_in _)
 
   none_is_wrong : (first_wrong 0 (codes_in f) (amounts_in f)).number ≡ 0
-  none_is_wrong = ap (λ l. (first_wrong 0 (codes_of l) (amounts_of l)).number) records_in_lem ∙ none-wrong 0 records steps_in
+  none_is_wrong = ap (λ l. (first_wrong 0 (codes_of l) (amounts_of l)).number) records_in_lem ∙ none_wrong 0 records steps_in
 
-  records-same : bytes_of (records_of (codes_in f) (amounts_in f)) ≡ records
-  records-same =
+  records_same : bytes_of (records_of (codes_in f) (amounts_in f)) ≡ records
+  records_same =
       ap (λ l. bytes_of (records_of (codes_of l) (amounts_of l))) records_in_lem
-      ∙ records-written (record_count f) records records-length (λ j. rw get_or-drop (b (ends + j))) steps_in
+      ∙ records_written (record_count f) records records-length (λ j. rw get_or-drop (b (ends + j))) steps_in
 
   -- what its codes and amounts mean is what its records mean
   pub taken_apart_reads_the_same : readings_by (codes_in f) (amounts_in f) ≡ readings_of f
   taken_apart_reads_the_same =
-      sym (records-back 0 (codes_in f) (amounts_in f) none_is_wrong) ∙ ap records_in (records-same ∙ sym records_in_lem)
+      sym (records_back 0 (codes_in f) (amounts_in f) none_is_wrong) ∙ ap records_in (records_same ∙ sym records_in_lem)
 
   -- its entries are those that are written
   module _ (z : ¬ OtherEntries f) where
     entries_fit_in : entries_for (table_in f) ≡ u16s_at f 12 (table_entries f)
     entries_fit_in = let w = good.whole in entries_in f (omega arith) good.few z
 
-    entries-count : length (entries_for (table_in f)) ≡ table_entries f
-    entries-count = ap length entries_fit_in ∙ length-u16s_at f 12 (table_entries f)
+    entries_count : length (entries_for (table_in f)) ≡ table_entries f
+    entries_count = ap length entries_fit_in ∙ length-u16s_at f 12 (table_entries f)
 
     header_same : header_of (length (entries_for (table_in f))) (length (codes_in f)) ≡ u16s_at f 0 6
     header_same =
-        ap (λ k. header_of k (length (codes_in f))) entries-count
-        ∙ ap (λ n. header_of (table_entries f) n) codes-count
+        ap (λ k. header_of k (length (codes_in f))) entries_count
+        ∙ ap (λ n. header_of (table_entries f) n) codes_count
         ∙ six
         (u16_at f 0)
         (u16_at f 2)
@@ -186,11 +186,11 @@ module _ (f : List ℕ) (b : Bytes f) (e : (refusal_of f).number ≡ 0) (all : A
         (at_most_22 (table_entries f) good.few)
         good.most
 
-    rest-same : bytes_of (entries_for (table_in f)) ++ bytes_of (records_of (codes_in f) (amounts_in f)) ≡ drop 12 f
-    rest-same =
+    rest_same : bytes_of (entries_for (table_in f)) ++ bytes_of (records_of (codes_in f) (amounts_in f)) ≡ drop 12 f
+    rest_same =
         let w = good.whole in
         ap (λ t. bytes_of t ++ bytes_of (records_of (codes_in f) (amounts_in f))) entries_fit_in
-        ∙ ap (λ t. bytes_of (u16s_at f 12 (table_entries f)) ++ t) records-same
+        ∙ ap (λ t. bytes_of (u16s_at f 12 (table_entries f)) ++ t) records_same
         ∙ numbers_written f b 12 (table_entries f) (omega arith)
 
 -- ---- the writer accepts it: its first three checks hold, and no record is wrong
@@ -208,7 +208,7 @@ read_is_writable f b e all =
           (most_for (table_in f))
           (broken_rule (table_in f))
           (as_long f b e all)
-          (subst (λ m. m ≤ most_for (table_in f)) (sym (codes-count f b e all)) (no_more_than_written f e))
+          (subst (λ m. m ≤ most_for (table_in f)) (sym (codes_count f b e all)) (no_more_than_written f e))
           g.admitted,
       none_is_wrong f b e all,
     )
@@ -228,7 +228,7 @@ read_is_written_back f b e all z =
     b
     (omega arith)
     (header_same f b e all z)
-    (rest-same f b e all z)
+    (rest_same f b e all z)
 
 -- ---- of no entries, and of twenty-two with four zeros, the writer makes eighteen
 -- the second file is good and has eighteen entries, the first one's table and its record bytes; it is 36 bytes longer or 8 shorter, so
@@ -262,18 +262,18 @@ others_are_written_in_eighteen f b e all z =
       table = written_reads_back_the_table t cs ns writes;
       records =
           record_bytes_lem (entries_for t) cs ns (as_long f b e all) (written_is_good t cs ns writes)
-          ∙ records-same f b e all
+          ∙ records_same f b e all
           ∙ sym (records_in_lem f b e all);
-      size = omega (arith, codes-count f b e all);
+      size = omega (arith, codes_count f b e all);
       other = λ same. not_eighteen f z (sym (ap table_entries same) ∙ written_in_so_many t cs ns writes ∙ eighteen);
     }
 
 -- ---- a good file has as many records as its header says
 pub as_many_records : (f : List ℕ) → (refusal_of f).number ≡ 0 → length (readings_of f) ≡ record_count f
 as_many_records f e =
-    let g = good-file f e in
+    let g = good_file f e in
     let w = g.whole in
     let ends = 12 + 2 * table_entries f in
     let d = length-drop ends f in
-    ap (λ l. length (records_in l)) (records-from f e (omega arith) ∙ ap (λ i. drop i f) g.follow)
+    ap (λ l. length (records_in l)) (records_from f e (omega arith) ∙ ap (λ i. drop i f) g.follow)
     ∙ counted record_of (record_count f) (drop ends f) (omega arith)

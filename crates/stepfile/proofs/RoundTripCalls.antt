@@ -26,7 +26,7 @@ use Rattle.stepfile.specs.Writing.{wished, entries_for, file_of, size_of, first_
 use Rattle.stepfile.specs.RoundTrip.{Bytes, readings_by, AllRead, OtherEntries, codes_in, amounts_in}
 use Rattle.stepfile.proofs.WritingLaws.{size}
 use Rattle.stepfile.proofs.WriteLaws.{written}
-use Rattle.stepfile.proofs.RoundTrip.{written_is_good, written_reads_back_the_table, written_reads_back_the_steps, written-steps-all-read, read_is_written_back, read_is_writable, InEighteen, others_are_written_in_eighteen}
+use Rattle.stepfile.proofs.RoundTrip.{written_is_good, written_reads_back_the_table, written_reads_back_the_steps, written_steps_all_read, read_is_written_back, read_is_writable, InEighteen, others_are_written_in_eighteen}
 use Rattle.stepfile.specs.contracts.write.write as write_call
 use Rattle.stepfile.proofs.write.write.Reads as write_reads
 
@@ -125,7 +125,7 @@ module _
               good = written_is_good t codes amounts h.0;
               table = written_reads_back_the_table t codes amounts h.0;
               read = written_reads_back_the_steps t codes amounts h.0 h.1;
-              all_read = written-steps-all-read t codes amounts h.0 h.1;
+              all_read = written_steps_all_read t codes amounts h.0 h.1;
             };
         size = ap length s.file;
         rest = s.rest;

@@ -8,7 +8,7 @@ use native.Mathlib.Decide.{dec_lt}
 use Rattle.shift.specs.declared.Reading.{Reading}
 use Rattle.shift.specs.declared.Reading.TheVariants.{Means, WrongCode, WrongAmount}
 use Rattle.shift.specs.Answers.{reading, refusal}
-use Rattle.shift.proofs.ReadingLaws.{past-codes}
+use Rattle.shift.proofs.ReadingLaws.{past_codes}
 use Rattle.numbers.specs.Bytes.{bytes_of}
 use Rattle.stepfile.specs.Records.{record_of, records_in}
 use Rattle.stepfile.specs.declared.write.Wrong.{Wrong}
@@ -26,7 +26,7 @@ listed c n e =
     elim (dec_lt c 14) [
       | yes h ↦ h
       | no h ↦
-          let five : refusal (reading c 0 n) ≡ 5 = ap refusal (past-codes 0 n c (omega arith)) in
+          let five : refusal (reading c 0 n) ≡ 5 = ap refusal (past_codes 0 n c (omega arith)) in
           absurd (omega arith)
     ]
 
@@ -39,12 +39,12 @@ same_record c n h =
     ∙ ap (λ a. reading a 0 (n % 256 + 256 * (n / 256))) low
     ∙ ap (λ m. reading c 0 m) amount
 
-pub records-back : (i : ℕ) (cs ns : List ℕ) → (first_wrong i cs ns).number ≡ 0 → records_in (bytes_of (records_of cs ns)) ≡ readings_by cs ns
-records-back i [] ns e = refl
-records-back i (c ∷ cs) [] e = refl
-records-back i (c ∷ cs) (n ∷ ns) e =
+pub records_back : (i : ℕ) (cs ns : List ℕ) → (first_wrong i cs ns).number ≡ 0 → records_in (bytes_of (records_of cs ns)) ≡ readings_by cs ns
+records_back i [] ns e = refl
+records_back i (c ∷ cs) [] e = refl
+records_back i (c ∷ cs) (n ∷ ns) e =
     let r = right (refusal (reading c 0 n)) i (first_wrong (suc i) cs ns) e in
-    let rest = records-back (suc i) cs ns r.1 in
+    let rest = records_back (suc i) cs ns r.1 in
     let this = same_record c n (listed c n r.0) in
     ap (λ x. x ∷ records_in (bytes_of (records_of cs ns))) this ∙ ap (λ l. reading c 0 n ∷ l) rest
 

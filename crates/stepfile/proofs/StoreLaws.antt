@@ -15,23 +15,23 @@ use Rattle.limits.specs.Limits.{entries}
 use Rattle.shift.specs.Answers.{reading, refusal}
 use Rattle.stepfile.specs.declared.write.Wrong.{Wrong}
 use Rattle.stepfile.specs.Writing.{entries_for, header_of, records_of, file_of, wrong_or, first_wrong}
-use Rattle.stepfile.proofs.EntryLaws.{entries-taken}
+use Rattle.stepfile.proofs.EntryLaws.{entries_taken}
 
 -- ---- the first n entries of a table
 module _ (l es : List ℕ) (n i : ℕ) where
   abbrev first : List ℕ
   first = take n es
 
-  pub entry-stored :
+  pub entry_stored :
       i < n → n ≤ length es
       → sets l (12 + 2 * i) (bytes_of (drop i first))
       ≡ sets (sets l (12 + 2 * i) (bytes_of (get_or es i 0 ∷ []))) (12 + 2 * (i + 1)) (bytes_of (drop (i + 1) first))
-  entry-stored h k =
+  entry_stored h k =
       let next : 12 + 2 * (i + 1) ≡ suc (suc (12 + 2 * i)) = omega arith in
       rw (next, add-one i, drop-cons first i 0 (omega (arith, length-take-le n es k)), get_or-take n es i 0 h)
 
-  pub entries-stored : n ≤ i → n ≤ length es → sets l (12 + 2 * i) (bytes_of (drop i first)) ≡ l
-  entries-stored h k = rw (drop_of_length-le first {i = i} (omega (arith, length-take-le n es k)))
+  pub entries_stored : n ≤ i → n ≤ length es → sets l (12 + 2 * i) (bytes_of (drop i first)) ≡ l
+  entries_stored h k = rw (drop_of_length-le first {i = i} (omega (arith, length-take-le n es k)))
 
 -- ---- the records of two lists
 module _ (l cs ns : List ℕ) (p i : ℕ) where
@@ -41,8 +41,8 @@ module _ (l cs ns : List ℕ) (p i : ℕ) where
       ≡ sets (sets (sets l p (bytes_of (get_or cs i 0 ∷ []))) (p + 2) (bytes_of (get_or ns i 0 ∷ []))) (p + 4) (bytes_of (records_of (drop (i + 1) cs) (drop (i + 1) ns)))
   record_stored h k = rw (add-one i, drop-cons cs i 0 h, drop-cons ns i 0 k) (simp towards_suc)
 
-  pub records-stored : length cs ≤ i → sets l p (bytes_of (records_of (drop i cs) (drop i ns))) ≡ l
-  records-stored h = rw (drop_of_length-le cs h)
+  pub records_stored : length cs ≤ i → sets l p (bytes_of (records_of (drop i cs) (drop i ns))) ≡ l
+  records_stored h = rw (drop_of_length-le cs h)
 
 -- ---- the first wrong record from an index on
 wrong_there : (k i : ℕ) (rest : Wrong) → ¬ (k ≡ 0) → wrong_or k i rest ≡ record { number = k; index = i }
@@ -83,14 +83,14 @@ parts_stored l h e r =
     ∙ sets-append m (length (bytes_of h)) (bytes_of e) (bytes_of r))
 
 -- of a table that is written with k entries
-pub file-stored :
+pub file_stored :
     (l : List ℕ) (t : Table) (cs ns : List ℕ) (k : ℕ) → k ≡ length (entries_for t)
     → sets (sets (sets l 0 (bytes_of (header_of k (length cs)))) 12 (bytes_of (take k (entries t)))) (12 + 2 * k) (bytes_of (records_of cs ns))
     ≡ sets l 0 (file_of t cs ns)
-file-stored l t cs ns k e =
+file_stored l t cs ns k e =
     let es = entries_for t in
     let h = header_of (length es) (length cs) in
     let place : 12 + 2 * length es ≡ 12 + length (bytes_of es) = omega (arith, length-bytes_of es) in
-    rw (e, entries-taken t)
+    rw (e, entries_taken t)
     (ap (λ p. sets (sets (sets l 0 (bytes_of h)) 12 (bytes_of es)) p (bytes_of (records_of cs ns))) place
     ∙ parts_stored l h es (records_of cs ns))

@@ -38,14 +38,14 @@ module _ (k n : ℕ) (rest : List ℕ) where
   abbrev headed_file : List ℕ
   headed_file = bytes_of (header_of k n ++ rest)
 
-  pub entries-back : table_entries headed_file ≡ k
-  entries-back = omega arith
+  pub entries_back : table_entries headed_file ≡ k
+  entries_back = omega arith
 
   pub offset_back : record_offset headed_file ≡ 12 + 2 * k
   offset_back = omega arith
 
-  pub count-back : record_count headed_file ≡ n
-  count-back = omega arith
+  pub count_back : record_count headed_file ≡ n
+  count_back = omega arith
 
 -- ---- the table of a file with entries, and of one without
 pub with_twenty_two : (f : List ℕ) → 56 ≤ length f → table_entries f ≡ 22 → table_in f ≡ table_of (u16s_at f 12 22)
@@ -71,8 +71,8 @@ pub well : (f : List ℕ) → Holds (headed f) → broken_rule (table_in f) ≡ 
 well f h b = let z = holds→first (headed f) h in sym (ap (λ r. r.number) (not_refused f refl z refl b))
 
 -- ---- the record bytes of a good file
-pub records-from : (f : List ℕ) → (refusal_of f).number ≡ 0 → 12 ≤ length f → record_bytes f ≡ drop (record_offset f) f
-records-from f e l =
+pub records_from : (f : List ℕ) → (refusal_of f).number ≡ 0 → 12 ≤ length f → record_bytes f ≡ drop (record_offset f) f
+records_from f e l =
     ap (λ b. cond b (from_offset f) []) (eq-eqb (refusal_of f).number 0 e)
     ∙ ap (λ b. cond b (drop (record_offset f) f) []) (le-leb 12 (length f) l)
 

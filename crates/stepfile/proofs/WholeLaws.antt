@@ -48,8 +48,8 @@ abbrev pub GoodFile : List ℕ → Type 0
 GoodFile f =
     Good (length f) (table_offset f) (table_entries f) (record_offset f) (record_count f) (broken_rule (table_in f))
 
-pub good-file : (f : List ℕ) → (refusal_of f).number ≡ 0 → GoodFile f
-good-file f e =
+pub good_file : (f : List ℕ) → (refusal_of f).number ≡ 0 → GoodFile f
+good_file f e =
     told (length f) (table_offset f) (table_entries f) (record_offset f) (record_count f) (broken_rule (table_in f)) e
 
 -- ---- numbers of 16 bits that were read are written as the bytes that they were read of
@@ -110,22 +110,22 @@ module _ (f : List ℕ) where
         ∙ ap (λ m. u16s_at f 12 m) (sym e)
 
     -- as many records as the file may have the writer takes with its table
-    most-fits : (n : ℕ) → Few k → n ≤ most_records k → n ≤ most_for (table_in f)
-    most-fits n (inl e) m =
+    most_fits : (n : ℕ) → Few k → n ≤ most_records k → n ≤ most_for (table_in f)
+    most_fits n (inl e) m =
         let same : most_for (table_in f) ≡ 16372 = ap most_for (without_entries f e) in
         omega (arith, most_between k)
-    most-fits n (inr (inl e)) m =
+    most_fits n (inr (inl e)) m =
         let same : most_for (table_in f) ≡ 16372 = ap (λ es. most_records (length es)) (eighteen_in e) in
         omega (arith, most_between k)
-    most-fits n (inr (inr e)) m =
+    most_fits n (inr (inr e)) m =
         let least : most_records k ≡ 16370 = ap most_records e in
         omega (arith, most_between (length (entries_for (table_in f))))
 
 -- ---- a good file has no more records than the writer takes with its table
 pub no_more_than_written : (f : List ℕ) → (refusal_of f).number ≡ 0 → record_count f ≤ most_for (table_in f)
 no_more_than_written f z =
-    let g = good-file f z in
-    most-fits f (omega (arith, g.whole)) (record_count f) g.few g.within
+    let g = good_file f z in
+    most_fits f (omega (arith, g.whole)) (record_count f) g.few g.within
 
 -- ---- a file of its parts
 pub assembled :

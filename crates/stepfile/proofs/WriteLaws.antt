@@ -34,10 +34,10 @@ module _ (t : Table) (cs ns out : List ℕ) where
   abbrev rest : Written
   rest = after_records (first_wrong 0 cs ns) (fitting (size_of t cs) (length out))
 
-  pub at-lists :
+  pub at_lists :
       (k : ℕ) → first (writable t cs ns) ≡ k → ¬ (k ≡ 0)
       → Leaves (refused_with k (cond (eqb k 4) (broken_rule t) 0) 0) out
-  at-lists k e n =
+  at_lists k e n =
       let r = broken_rule t in
       let own : refused_with k (cond (eqb k 4) r 0) 0 ≡ after_lists k r rest =
       ap (λ b. cond b rest (refused_with k (cond (eqb k 4) r 0) 0)) (sym (ne_eqb k 0 n))

@@ -23,23 +23,23 @@ use Rattle.stepfile.specs.declared.write.Wrong.{Wrong}
 use Rattle.stepfile.specs.declared.write.Written.{Written}
 use Rattle.stepfile.specs.Writing.{wished, entries_for, most_for, first_wrong, size_of, writable, refused_with, written_of, buffer_after, file_of}
 use Rattle.stepfile.specs.Refusals.{WrongAt, table_for, TooMany, WrittenWith, write_refusals, WriteAnswers}
-use Rattle.stepfile.proofs.EntryLaws.{past-most, within-most, written-with, with_no_others}
-use Rattle.stepfile.proofs.WriteLaws.{at-lists, at_record, at_room, written}
+use Rattle.stepfile.proofs.EntryLaws.{past_most, within_most, written_with, with_no_others}
+use Rattle.stepfile.proofs.WriteLaws.{at_lists, at_record, at_room, written}
 use Rattle.stepfile.proofs.FileRefusals.{ruled}
 use Rattle.stepfile.proofs.RecordRefusals.{found, same, one_number, five_or_six}
 
 -- ---- a write
-same-table : (w : Wish) → wished w ≡ table_for w
-same-table (Given t) = refl
-same-table NoTable = refl
+same_table : (w : Wish) → wished w ≡ table_for w
+same_table (Given t) = refl
+same_table NoTable = refl
 
 -- the record maximum, by how the table would be written
 pub too_many : (w : Wish) (n : ℕ) → most_for (wished w) < n → (k : ℕ) × WrittenWith w k × TooMany k n
-too_many w n h = (length (entries_for (wished w)), written-with w, past-most (length (entries_for (wished w))) n h)
+too_many w n h = (length (entries_for (wished w)), written_with w, past_most (length (entries_for (wished w))) n h)
 
 pub not_too_many : (w : Wish) (n : ℕ) → n ≤ most_for (wished w) → ¬ ((k : ℕ) × WrittenWith w k × TooMany k n)
 not_too_many w n h q =
-    within-most (length (entries_for (wished w))) n h (subst (λ k. TooMany k n) (with_no_others w q.0 q.1) q.2)
+    within_most (length (entries_for (wished w))) n h (subst (λ k. TooMany k n) (with_no_others w q.0 q.1) q.2)
 
 module _ (w : Wish) (cs ns out : List ℕ) where
   abbrev list_refusals : List Condition
@@ -57,7 +57,7 @@ module _ (w : Wish) (cs ns out : List ℕ) where
 
   lists_in_order : FirstOf list_refusals (first (writable (wished w) cs ns))
   lists_in_order =
-      let rule = ap broken_rule (same-table w) in
+      let rule = ap broken_rule (same_table w) in
       first_of (writable (wished w) cs ns) list_refusals (
         omega (arith, tests),
         (
@@ -123,7 +123,7 @@ module _ (w : Wish) (cs ns out : List ℕ) where
       let last = (first-append 4 before ((eqb (broken_rule (wished w)) 0 ! 4) ∷ []) tt e).1 in
       let n : ¬ (broken_rule (wished w) ≡ 0) = λ z. let q = rw (eq-eqb (broken_rule (wished w)) 0 z) at last in omega arith in
       let own : its_rule ≡ broken_rule (wished w) = rw (eq-eqb number 4 e) in
-      (own ∙ ap broken_rule (same-table w), λ z. n (sym own ∙ z))
+      (own ∙ ap broken_rule (same_table w), λ z. n (sym own ∙ z))
 
   by_lists : ¬ (number ≡ 0) → Answers (refused_with number its_rule 0) out
   by_lists n =
@@ -176,7 +176,7 @@ module _ (w : Wish) (cs ns out : List ℕ) where
       no_room : length out < size_of (wished w) cs → Answers (refused_with 15 0 0) out
       no_room l =
           record {
-            first = by_room 15 (inl ((length (entries_for (wished w)), written-with w, l), refl));
+            first = by_room 15 (inl ((length (entries_for (wished w)), written_with w, l), refl));
             numbers = inr (inr (inr (inr (inr (inr (inl refl))))));
             rule_for = ruled (table_for w) 15 0 (λ e. absurd (omega arith)) (λ _. refl);
             index_with_5_and_6 = ⊎_elim (λ e. absurd (omega arith)) (λ e. absurd (omega arith));
@@ -219,4 +219,4 @@ module _ (w : Wish) (cs ns out : List ℕ) where
       carried (refused_with wrong.number 0 wrong.index) out (at_record (wished w) cs ns out z n) (by_record z n)))
       (λ t.
       let n = eqb-false number 0 t in
-      carried (refused_with number its_rule 0) out (at-lists (wished w) cs ns out number refl n) (by_lists n))
+      carried (refused_with number its_rule 0) out (at_lists (wished w) cs ns out number refl n) (by_lists n))

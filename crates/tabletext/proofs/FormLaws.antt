@@ -26,11 +26,11 @@ abbrev pub stops : Class → List ℕ → Bool
 stops c [] = true
 stops c (b ∷ bs) = not (holds c b)
 
-pub leading-all : (c : Class) (xs ys : List ℕ) → T (all c xs) → T (stops c ys) → leading c (xs ++ ys) ≡ xs
-leading-all c [] [] h s = refl
-leading-all c [] (y ∷ ys) h s = rw (not-true (holds c y) (passed (not (holds c y)) s))
-leading-all c (x ∷ xs) ys h s =
-    rw (passed (holds c x) (left (holds c x) (all c xs) h), leading-all c xs ys (right (holds c x) (all c xs) h) s)
+pub leading_all : (c : Class) (xs ys : List ℕ) → T (all c xs) → T (stops c ys) → leading c (xs ++ ys) ≡ xs
+leading_all c [] [] h s = refl
+leading_all c [] (y ∷ ys) h s = rw (not-true (holds c y) (passed (not (holds c y)) s))
+leading_all c (x ∷ xs) ys h s =
+    rw (passed (holds c x) (left (holds c x) (all c xs) h), leading_all c xs ys (right (holds c x) (all c xs) h) s)
 
 past_all : (c : Class) (xs ys : List ℕ) → T (all c xs) → T (stops c ys) → past c (xs ++ ys) ≡ ys
 past_all c [] [] h s = refl
@@ -47,7 +47,7 @@ module _ (pre : List ℕ) (b : ℕ) (bs rest : List ℕ) (p : T (all Blank pre))
   begins = past_all Blank pre ((b ∷ bs) ++ rest) p (letter_no_blank b (left (holds Letter b) (all Letter bs) w))
 
   word_is : word (pre ++ ((b ∷ bs) ++ rest)) ≡ b ∷ bs
-  word_is = ap (leading Letter) begins ∙ leading-all Letter (b ∷ bs) rest w s
+  word_is = ap (leading Letter) begins ∙ leading_all Letter (b ∷ bs) rest w s
 
   behind_is : behind (pre ++ ((b ∷ bs) ++ rest)) ≡ rest
   behind_is = ap (past Letter) begins ∙ past_all Letter (b ∷ bs) rest w s
@@ -57,22 +57,22 @@ abbrev pub commented : List ℕ → Bool
 commented [] = true
 commented (b ∷ bs) = eqb b comment
 
-comment-stops : (c : List ℕ) → T (commented c) → T (stops Blank c) × T (stops Letter c)
-comment-stops [] h = (tt, tt)
-comment-stops (b ∷ bs) h = rw (eqb→eq b comment h) (tt, tt)
+comment_stops : (c : List ℕ) → T (commented c) → T (stops Blank c) × T (stops Letter c)
+comment_stops [] h = (tt, tt)
+comment_stops (b ∷ bs) h = rw (eqb→eq b comment h) (tt, tt)
 
 pub no_word : (post c : List ℕ) → T (all Blank post) → T (commented c) → word (post ++ c) ≡ []
 no_word post c p h =
-    let s = comment-stops c h in
-    ap (leading Letter) (past_all Blank post c p s.0) ∙ leading-all Letter [] c tt s.1
+    let s = comment_stops c h in
+    ap (leading Letter) (past_all Blank post c p s.0) ∙ leading_all Letter [] c tt s.1
 
 -- blanks and a comment behind a word end it
-pub blank-ends : (b : ℕ) → T (holds Blank b) → T (not (holds Letter b))
-blank-ends b h = rw (passed (holds Blank b) h) tt
+pub blank_ends : (b : ℕ) → T (holds Blank b) → T (not (holds Letter b))
+blank_ends b h = rw (passed (holds Blank b) h) tt
 
 pub ends : (post c : List ℕ) → T (all Blank post) → T (commented c) → T (stops Letter (post ++ c))
-ends [] c p h = (comment-stops c h).1
-ends (b ∷ bs) c p h = blank-ends b (left (holds Blank b) (all Blank bs) p)
+ends [] c p h = (comment_stops c h).1
+ends (b ∷ bs) c p h = blank_ends b (left (holds Blank b) (all Blank bs) p)
 
 -- ---- digits stand in a word
 digit_letter : (b : ℕ) → T (digit b) → T (holds Letter b)
@@ -148,4 +148,4 @@ module _
 
     -- the entry of this number, and this value
     pub line_says : i < 22 → line_of (pre ++ (name i ++ value_part)) ≡ Entry i (capped (value_from 0 (d ∷ ds)))
-    line_says k = named_line i pre value_part k p (blank-ends g (left (holds Blank g) (all Blank gap) q)) ∙ ap (Entry i) behind_the_name
+    line_says k = named_line i pre value_part k p (blank_ends g (left (holds Blank g) (all Blank gap) q)) ∙ ap (Entry i) behind_the_name

@@ -76,13 +76,13 @@ at_least i (suc k) [] l h = absurd (omega arith)
 at_least i (suc k) (v ∷ vs) l h =
     rw (ne_eqb v not_given (h 0 (omega arith))) (omega (arith, at_least (suc i) k vs (omega arith) (λ j m. h (suc j) (omega arith))))
 
-before-absent : (i j : ℕ) (g : List ℕ) → i + j < absent_from i g → ¬ NotGiven g j
-before-absent i j [] h e = omega arith
-before-absent i zero (v ∷ vs) h e = let f = rw (eq-eqb v not_given e) at h in omega (arith, f)
-before-absent i (suc j) (v ∷ vs) h e =
+before_absent : (i j : ℕ) (g : List ℕ) → i + j < absent_from i g → ¬ NotGiven g j
+before_absent i j [] h e = omega arith
+before_absent i zero (v ∷ vs) h e = let f = rw (eq-eqb v not_given e) at h in omega (arith, f)
+before_absent i (suc j) (v ∷ vs) h e =
     case (eqb v not_given)
     (λ t. let f = rw t at h in omega (arith, f))
-    (λ t. let f = rw t at h in before-absent (suc i) j vs (omega (arith, f)) e)
+    (λ t. let f = rw t at h in before_absent (suc i) j vs (omega (arith, f)) e)
 
 -- ---- how many are wanted: by the four delays
 abbrev pub Limits : List ℕ → Type 0
@@ -95,46 +95,46 @@ abbrev pub NoDelays : List ℕ → Type 0
 NoDelays g = (i : ℕ) → 18 ≤ i → i < 22 → NotGiven g i
 
 module _ (g : List ℕ) where
-  abbrev none-delayed : Bool
-  none-delayed = undelayed (get_or g 18 0) (get_or g 19 0) (get_or g 20 0) (get_or g 21 0)
+  abbrev none_delayed : Bool
+  none_delayed = undelayed (get_or g 18 0) (get_or g 19 0) (get_or g 20 0) (get_or g 21 0)
 
-  delays-tested : Tests none-delayed (NoDelays g)
-  delays-tested =
-      let each : Tests none-delayed _ = all_of equal (all_of equal (all_of equal equal)) in
+  delays_tested : Tests none_delayed (NoDelays g)
+  delays_tested =
+      let each : Tests none_delayed _ = all_of equal (all_of equal (all_of equal equal)) in
       record {
         read = λ h. let p = each.read h in from (NotGiven g) 18 4 (p.0, (p.1.0, (p.1.1.0, (p.1.1.1, tt))));
         shown = λ f.
             each.shown (f 18 (omega arith) (omega arith), (f 19 (omega arith) (omega arith), (f 20 (omega arith) (omega arith), f 21 (omega arith) (omega arith))));
       }
 
-  wanted-fits : (18 ≤ wanted g) × (wanted g ≤ 22)
-  wanted-fits = case none-delayed (λ t. rw t (omega arith, omega arith)) (λ t. rw t (omega arith, omega arith))
+  wanted_fits : (18 ≤ wanted g) × (wanted g ≤ 22)
+  wanted_fits = case none_delayed (λ t. rw t (omega arith, omega arith)) (λ t. rw t (omega arith, omega arith))
 
   -- enough are given: what lines that say a table give, and nothing else
   pub enough_given : length g ≡ 22 → Limits g → Delays g ⊎ NoDelays g → wanted g ≤ absent_from 0 g
   enough_given n l =
       ⊎_elim
-      (λ d. omega (arith, wanted-fits.1, at_least 0 22 g (omega (arith, n)) (λ j h. ⊎_elim (λ k. l j k) (λ k. d j k h) (sides j))))
+      (λ d. omega (arith, wanted_fits.1, at_least 0 22 g (omega (arith, n)) (λ j h. ⊎_elim (λ k. l j k) (λ k. d j k h) (sides j))))
       (λ d.
-      let eighteen : wanted g ≡ 18 = rw (passed none-delayed (delays-tested.shown d)) in
+      let eighteen : wanted g ≡ 18 = rw (passed none_delayed (delays_tested.shown d)) in
       omega (arith, eighteen, at_least 0 18 g (omega (arith, n)) l))
     where
       sides : (j : ℕ) → (j < 18) ⊎ (18 ≤ j)
       sides j = case (ltb j 18) (λ t. inl (ltb-true j 18 t)) (λ t. inr (ltb-false j 18 t))
 
-  pub limits-given : wanted g ≤ absent_from 0 g → Limits g
-  limits-given h i k = before-absent 0 i g (omega (arith, h, wanted-fits.0))
+  pub limits_given : wanted g ≤ absent_from 0 g → Limits g
+  limits_given h i k = before_absent 0 i g (omega (arith, h, wanted_fits.0))
 
-  pub delays-given : wanted g ≤ absent_from 0 g → Delays g ⊎ NoDelays g
-  delays-given h =
-      case none-delayed
-      (λ t. inr (delays-tested.read (passes none-delayed t)))
-      (λ t. let all : 22 ≤ absent_from 0 g = rw t at h in inl (λ i l k. before-absent 0 i g (omega (arith, all))))
+  pub delays_given : wanted g ≤ absent_from 0 g → Delays g ⊎ NoDelays g
+  delays_given h =
+      case none_delayed
+      (λ t. inr (delays_tested.read (passes none_delayed t)))
+      (λ t. let all : 22 ≤ absent_from 0 g = rw t at h in inl (λ i l k. before_absent 0 i g (omega (arith, all))))
 
   pub none_is_missing : 22 ≤ missing g → wanted g ≤ absent_from 0 g
   none_is_missing m =
       case (ltb (absent_from 0 g) (wanted g))
-      (λ c. let l = ltb-true (absent_from 0 g) (wanted g) c in let f : 22 ≤ absent_from 0 g = rw c at m in absurd (omega (arith, l, f, wanted-fits.1)))
+      (λ c. let l = ltb-true (absent_from 0 g) (wanted g) c in let f : 22 ≤ absent_from 0 g = rw c at m in absurd (omega (arith, l, f, wanted_fits.1)))
       (λ c. ltb-false (absent_from 0 g) (wanted g) c)
 
   -- one that is missing is the first
@@ -143,22 +143,22 @@ module _ (g : List ℕ) where
     pub none_before : (i : ℕ) → i < m → ¬ NotGiven g i
     pub wanted : (m < 18) ⊎ ((m < 22) × ¬ NoDelays g)
 
-  pub first-missing : length g ≡ 22 → missing g < 22 → FirstMissing (missing g)
-  first-missing n h =
+  pub first_missing : length g ≡ 22 → missing g < 22 → FirstMissing (missing g)
+  first_missing n h =
       case (ltb (absent_from 0 g) (wanted g))
       (λ c. rw c (here (ltb-true (absent_from 0 g) (wanted g) c)))
       (λ c. let f : 22 < 22 = rw c at h in absurd (omega arith))
     where
       asked : absent_from 0 g < wanted g → (absent_from 0 g < 18) ⊎ ((absent_from 0 g < 22) × ¬ NoDelays g)
       asked l =
-          case none-delayed
+          case none_delayed
           (λ t. let f : absent_from 0 g < 18 = rw t at l in inl f)
-          (λ t. let f : absent_from 0 g < 22 = rw t at l in inr (f, λ d. absurd (subst T t (delays-tested.shown d))))
+          (λ t. let f : absent_from 0 g < 22 = rw t at l in inr (f, λ d. absurd (subst T t (delays_tested.shown d))))
 
       here : absent_from 0 g < wanted g → FirstMissing (absent_from 0 g)
       here l = record {
-        absent = absent_there 0 (absent_from 0 g) g (omega arith) (omega (arith, l, n, wanted-fits.1));
-        none_before = λ i k. before-absent 0 i g (omega arith);
+        absent = absent_there 0 (absent_from 0 g) g (omega arith) (omega (arith, l, n, wanted_fits.1));
+        none_before = λ i k. before_absent 0 i g (omega arith);
         wanted = asked l;
       }
 

@@ -16,8 +16,8 @@ module _ (given : List ℕ) (i : ℕ) where
   pub given_here : i < length given → ¬ (get_or given i 0 ≡ not_given) → absent_from i (drop i given) ≡ absent_from (suc i) (drop (suc i) given)
   given_here h e = rw (drop-cons given i 0 h, ne_eqb (get_or given i 0) not_given e)
 
-  pub all-given : i ≡ length given → absent_from i (drop i given) ≡ i
-  all-given e = rw (e, drop-length given)
+  pub all_given : i ≡ length given → absent_from i (drop i given) ≡ i
+  all_given e = rw (e, drop-length given)
 
 pub one_more : (given : List ℕ) (i : ℕ) → i < length given
     → map or_zero (take (suc i) given) ≡ map or_zero (take i given) ++ (or_zero (get_or given i 0) ∷ [])

@@ -19,15 +19,15 @@ use Rattle.tablewords.specs.Words.{above, none, holds, leading, past, word, behi
 use Rattle.tablewords.specs.Names.{names, name, same, place, entry_named}
 use Rattle.tabletext.specs.Texts.{number_behind, named, entry_in, line_of}
 use Rattle.tabletext.specs.Form.{IsBlank, Blanks, OneLine, Comment, Digits, worth, Silent, Telling, Past, Naming, TooLarge}
-use Rattle.tabletext.proofs.FormLaws.{all, stops, leading-all, commented, no_word, blank-ends, named_line, line_says}
+use Rattle.tabletext.proofs.FormLaws.{all, stops, leading_all, commented, no_word, blank_ends, named_line, line_says}
 
 -- ---- the words are tested
-blank-tested : (b : ℕ) → Tests (holds Blank b) (IsBlank b)
-blank-tested b = some_of equal (some_of equal equal)
+blank_tested : (b : ℕ) → Tests (holds Blank b) (IsBlank b)
+blank_tested b = some_of equal (some_of equal equal)
 
 blanks_tested : (l : List ℕ) → Tests (all Blank l) (Blanks l)
 blanks_tested [] = nothing_to_test
-blanks_tested (b ∷ bs) = all_of (blank-tested b) (blanks_tested bs)
+blanks_tested (b ∷ bs) = all_of (blank_tested b) (blanks_tested bs)
 
 digits_tested : (ds : List ℕ) → Tests (all_digits ds) (Digits ds)
 digits_tested [] = nothing_to_test
@@ -67,13 +67,13 @@ a_telling_line_is_read i v l k t =
     ((digits_tested t.digits).shown t.number) ((blanks_tested t.behind).shown t.blank.1.1) (comments t.comment t.commented) t.apart t.some k
     ∙ ap (λ n. Entry i (capped n)) (value_is t.digits ∙ t.value)
 
-past-stops : (r : List ℕ) → Past r → T (stops Letter r)
-past-stops [] h = tt
-past-stops (b ∷ bs) h = ⊎_elim (λ w. blank-ends b ((blank-tested b).shown w)) (λ e. rw e tt) h
+past_stops : (r : List ℕ) → Past r → T (stops Letter r)
+past_stops [] h = tt
+past_stops (b ∷ bs) h = ⊎_elim (λ w. blank_ends b ((blank_tested b).shown w)) (λ e. rw e tt) h
 
 pub a_naming_line_is_read : (i : ℕ) (l : List ℕ) → i < 22 → (n : Naming i l) → line_of l ≡ Entry i (number_behind n.behind)
 a_naming_line_is_read i l k n =
-    ap line_of n.line ∙ named_line i n.before n.behind k ((blanks_tested n.before).shown n.blank) (past-stops n.behind n.past)
+    ap line_of n.line ∙ named_line i n.before n.behind k ((blanks_tested n.before).shown n.blank) (past_stops n.behind n.past)
 
 pub a_silent_line_is_read : (l : List ℕ) → Silent l → line_of l ≡ Nothing
 unfolding line_of
@@ -86,14 +86,14 @@ in_two : (c : Class) (l : List ℕ) → l ≡ leading c l ++ past c l
 in_two c [] = refl
 in_two c (b ∷ bs) = case (holds c b) (λ e. rw e (ap (λ r. b ∷ r) (in_two c bs))) (λ e. rw e)
 
-all-leading : (c : Class) (l : List ℕ) → T (all c (leading c l))
-all-leading c [] = tt
-all-leading c (b ∷ bs) =
-    case (holds c b) (λ e. rw e (both (holds c b) (all c (leading c bs)) (passes (holds c b) e) (all-leading c bs))) (λ e. rw e tt)
+all_leading : (c : Class) (l : List ℕ) → T (all c (leading c l))
+all_leading c [] = tt
+all_leading c (b ∷ bs) =
+    case (holds c b) (λ e. rw e (both (holds c b) (all c (leading c bs)) (passes (holds c b) e) (all_leading c bs))) (λ e. rw e tt)
 
-stops-past : (c : Class) (l : List ℕ) → T (stops c (past c l))
-stops-past c [] = tt
-stops-past c (b ∷ bs) = case (holds c b) (λ e. rw e (stops-past c bs)) (λ e. rw e (subst (λ x. T (not x)) (sym e) tt))
+stops_past : (c : Class) (l : List ℕ) → T (stops c (past c l))
+stops_past c [] = tt
+stops_past c (b ∷ bs) = case (holds c b) (λ e. rw e (stops_past c bs)) (λ e. rw e (subst (λ x. T (not x)) (sym e) tt))
 
 still_one_line : (c : Class) (l : List ℕ) → OneLine l → OneLine (past c l)
 still_one_line c [] h = tt
@@ -112,7 +112,7 @@ past_words : (r : List ℕ) → OneLine r → T (stops Letter r) → Past r
 past_words [] o s = tt
 past_words (b ∷ bs) o s =
     case (holds Blank b)
-    (λ t. inl ((blank-tested b).read (passes (holds Blank b) t)))
+    (λ t. inl ((blank_tested b).read (passes (holds Blank b) t)))
     (λ t. inr (neither b t (not-true (holds Letter b) (passed (not (holds Letter b)) s)) o.0))
 
 comment_words : (x : List ℕ) → OneLine x → T (stops Blank x) → length (leading Letter x) ≡ 0 → Comment x
@@ -175,8 +175,8 @@ a_line_that_is_read_as_silent l o e =
       before = leading Blank l;
       comment = past Blank l;
       line = in_two Blank l;
-      blank = (blanks_tested (leading Blank l)).read (all-leading Blank l);
-      commented = comment_words (past Blank l) (still_one_line Blank l o) (stops-past Blank l) (told_nothing l e);
+      blank = (blanks_tested (leading Blank l)).read (all_leading Blank l);
+      commented = comment_words (past Blank l) (still_one_line Blank l o) (stops_past Blank l) (told_nothing l e);
     }
 
 -- ---- a number that is one, or above 65,535
@@ -236,9 +236,9 @@ placed w (n ∷ ns) (suc i) e h =
     less : (k : ℕ) → suc k ≡ suc i → k ≡ i
     less k f = omega arith
 
-place-fits : (w : List ℕ) (ns : List (List ℕ)) → place w ns ≤ length ns
-place-fits w [] = omega arith
-place-fits w (n ∷ ns) = case (same w n) (λ t. rw t (omega arith)) (λ t. rw t (omega (arith, place-fits w ns)))
+place_fits : (w : List ℕ) (ns : List (List ℕ)) → place w ns ≤ length ns
+place_fits w [] = omega arith
+place_fits w (n ∷ ns) = case (same w n) (λ t. rw t (omega arith)) (λ t. rw t (omega (arith, place_fits w ns)))
 
 -- ---- blanks stand between a word and the next
 empty : (l : List ℕ) → length l ≡ 0 → l ≡ []
@@ -246,7 +246,7 @@ empty [] e = refl
 empty (b ∷ bs) e = absurd (omega arith)
 
 stopped : (c : Class) (r : List ℕ) → T (stops c r) → leading c r ≡ []
-stopped c r s = leading-all c [] r tt s
+stopped c r s = leading_all c [] r tt s
 
 apart : (r : List ℕ) → T (stops Letter r) → 1 ≤ length (word r) → 1 ≤ length (leading Blank r)
 apart r s h = case (eqb (length (leading Blank r)) 0) together (λ t. let l = eqb-false (length (leading Blank r)) 0 t in omega (arith, l))
@@ -266,7 +266,7 @@ names_it : (l : List ℕ) (i v : ℕ) → line_of l ≡ Entry i v → (i < 22) �
 unfolding entry_named
 names_it l i v e =
     let t = told_an_entry l i v e in
-    let fits : place (word l) names ≤ 22 = place-fits (word l) names in
+    let fits : place (word l) names ≤ 22 = place_fits (word l) names in
     let entry : place (word l) names ≡ i = t.entry in
     let other = t.named in
     let below : i < 22 = omega (arith, fits, entry, other) in
@@ -283,8 +283,8 @@ a_line_that_is_read_names_its_entry l i v o e =
         before = leading Blank l;
         behind = behind l;
         line = split l ∙ ap (λ w. leading Blank l ++ (w ++ behind l)) n.1;
-        blank = (blanks_tested (leading Blank l)).read (all-leading Blank l);
-        past = past_words (behind l) (still_past l o) (stops-past Letter (past Blank l));
+        blank = (blanks_tested (leading Blank l)).read (all_leading Blank l);
+        past = past_words (behind l) (still_past l o) (stops_past Letter (past Blank l));
       },
     )
 
@@ -315,14 +315,14 @@ numbered l i v o h e =
             ∙ ap (λ w. leading Blank l ++ (w ++ r)) (names_it l i v e).1
             ∙ ap (λ x. leading Blank l ++ (name i ++ x)) (split r ∙ ap (λ x. leading Blank r ++ (word r ++ x)) (in_two Blank q));
         blank = (
-          (blanks_tested (leading Blank l)).read (all-leading Blank l),
-          ((blanks_tested (leading Blank r)).read (all-leading Blank r), (blanks_tested (leading Blank q)).read (all-leading Blank q)),
+          (blanks_tested (leading Blank l)).read (all_leading Blank l),
+          ((blanks_tested (leading Blank r)).read (all_leading Blank r), (blanks_tested (leading Blank q)).read (all_leading Blank q)),
         );
-        apart = apart r (stops-past Letter (past Blank l)) d.0;
+        apart = apart r (stops_past Letter (past Blank l)) d.0;
         number = (digits_tested (word r)).read d.1.0;
         some = d.0;
         value = sym (value_is (word r));
-        commented = comment_words (past Blank q) (still_one_line Blank q (still_past r (still_past l o))) (stops-past Blank q) n.0;
+        commented = comment_words (past Blank q) (still_one_line Blank q (still_past r (still_past l o))) (stops_past Blank q) n.0;
       };
     }
 

@@ -15,7 +15,7 @@ use Rattle.tablewords.specs.declared.Class.TheVariants.{Inline}
 use Rattle.tabletext.specs.declared.Said.{Said}
 use Rattle.tablewords.specs.Words.{line_feed, leading}
 use Rattle.tabletext.specs.Texts.{onto, lines, line_of, fault_of, entry_in, with_line, wrong, read_from}
-use Rattle.tablewords.proofs.WordLaws.{take-leading, leading-fits}
+use Rattle.tablewords.proofs.WordLaws.{take-leading, leading_fits}
 
 -- the lines from a place on: of the place behind the last line feed there is one, of the next one none
 abbrev pub lines_at : ℕ → List ℕ → List (List ℕ)
@@ -49,7 +49,7 @@ module _
     spans = s ∙ ap (λ l. length (leading Inline l)) (part_to_end text at)
 
     pub line_fits : at + size ≤ length text
-    line_fits = omega (arith, spans, length-drop at text, leading-fits Inline (drop at text))
+    line_fits = omega (arith, spans, length-drop at text, leading_fits Inline (drop at text))
 
     the_line : take (at + size - at) (drop at text) ≡ leading Inline (drop at text)
     the_line = let one : at + size - at ≡ size = omega arith in rw (one, spans, take-leading Inline (drop at text))

@@ -31,9 +31,9 @@ last_line : (l : List ℕ) → OneLine l → lines l ≡ l ∷ []
 last_line [] o = refl
 last_line (b ∷ bs) o = rw (ne_eqb b line_feed o.0) (ap (onto b) (last_line bs o.1))
 
-pub lines-joined : (l : List ℕ) (ls : List (List ℕ)) → OneLines (l ∷ ls) → lines (joined l ls) ≡ l ∷ ls
-lines-joined l [] o = last_line l o.0
-lines-joined l (m ∷ ms) o = one_line l (joined m ms) (inline l o.0) ∙ ap (λ r. l ∷ r) (lines-joined m ms o.1)
+pub lines_joined : (l : List ℕ) (ls : List (List ℕ)) → OneLines (l ∷ ls) → lines (joined l ls) ≡ l ∷ ls
+lines_joined l [] o = last_line l o.0
+lines_joined l (m ∷ ms) o = one_line l (joined m ms) (inline l o.0) ∙ ap (λ r. l ∷ r) (lines_joined m ms o.1)
 
 -- ---- and each text is lines that are joined
 pub record InLines (text : List ℕ) : Type 0 where
@@ -43,9 +43,9 @@ pub record InLines (text : List ℕ) : Type 0 where
   pub whole : text ≡ joined first further
   pub each : OneLines (first ∷ further)
 
-joined-onto : (b : ℕ) (l : List ℕ) (ls : List (List ℕ)) → b ∷ joined l ls ≡ joined (b ∷ l) ls
-joined-onto b l [] = refl
-joined-onto b l (m ∷ ms) = refl
+joined_onto : (b : ℕ) (l : List ℕ) (ls : List (List ℕ)) → b ∷ joined l ls ≡ joined (b ∷ l) ls
+joined_onto b l [] = refl
+joined_onto b l (m ∷ ms) = refl
 
 pub in_lines : (text : List ℕ) → InLines text
 in_lines [] = record { first = []; further = []; are = refl; whole = refl; each = (tt, tt) }
@@ -66,7 +66,7 @@ in_lines (b ∷ bs) =
       first = b ∷ rest.first;
       further = rest.further;
       are = rw (e, rest.are);
-      whole = ap (λ r. b ∷ r) rest.whole ∙ joined-onto b rest.first rest.further;
+      whole = ap (λ r. b ∷ r) rest.whole ∙ joined_onto b rest.first rest.further;
       each = ((eqb-false b line_feed e, rest.each.0), rest.each.1);
     })
 
@@ -95,9 +95,9 @@ read_giving n (l ∷ ls) given after h =
     h)
 
 -- ---- what is wrong with a line that names an entry
-wrong-entry : (l given : List ℕ) (i v : ℕ) → OneLine l → line_of l ≡ Entry i v → ¬ (first (entry_checks (get_or given i 0) v) ≡ 0)
+wrong_entry : (l given : List ℕ) (i v : ℕ) → OneLine l → line_of l ≡ Entry i v → ¬ (first (entry_checks (get_or given i 0) v) ≡ 0)
     → WrongEntry l given (first (entry_checks (get_or given i 0) v)) i
-wrong-entry l given i v o s w =
+wrong_entry l given i v o s w =
     case (eqb (get_or given i 0) not_given)
     (λ a. inr (by_value a (eqb-true (get_or given i 0) not_given a)))
     (λ a. inl (rw a, eqb-false (get_or given i 0) not_given a))
@@ -209,4 +209,4 @@ walked n (l ∷ ls) given o = by_said (λ g. walked (suc n) ls g o.1) (line_of l
         (further (set given i v)))
         (λ c.
         let names = a_line_that_is_read_names_its_entry l i v o.0 s in
-        inl (here (first checks) i (inr (names.0, (names.1, wrong-entry l given i v o.0 s (eqb-false (first checks) 0 c)))) (rw (s, c))))
+        inl (here (first checks) i (inr (names.0, (names.1, wrong_entry l given i v o.0 s (eqb-false (first checks) 0 c)))) (rw (s, c))))

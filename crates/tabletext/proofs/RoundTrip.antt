@@ -26,7 +26,7 @@ use Rattle.tabletext.specs.declared.Text.TheVariants.{Says}
 use Rattle.tablewords.specs.Words.{line_feed, holds, digit, all_digits, value_from, capped}
 use Rattle.tablewords.specs.Names.{name}
 use Rattle.tabletext.specs.Texts.{onto, lines, line_of, not_given, nothing_given, entry_checks, absent_from, undelayed, wanted, missing, or_zero, ended, read_from, read_of}
-use Rattle.stepfile.proofs.EntryLaws.{delays, in_eighteen, in_twenty_two, same-table}
+use Rattle.stepfile.proofs.EntryLaws.{delays, in_eighteen, in_twenty_two, same_table}
 use Rattle.tabletext.specs.Printed.{value_part, entry_line, lines_from, text_of}
 use Rattle.tabletext.proofs.lay.lay.Reads as lay_reads
 use Rattle.tabletext.proofs.read.Reads as read_reads
@@ -108,19 +108,19 @@ read_on n i k front (v ∷ vs) e f w =
     (read_on (suc n) (suc i) k (front ++ (v ∷ [])) vs size (omega (arith, f)) w.1)
 
 -- ---- at the end nothing is missing, and the table is the one that was printed
-absent-past : (i : ℕ) (vs rest : List ℕ) → Within16 vs → absent_from i (vs ++ rest) ≡ absent_from (i + length vs) rest
-absent-past i [] rest w = let still : i + 0 ≡ i = omega arith in rw still
-absent-past i (v ∷ vs) rest w =
+absent_past : (i : ℕ) (vs rest : List ℕ) → Within16 vs → absent_from i (vs ++ rest) ≡ absent_from (i + length vs) rest
+absent_past i [] rest w = let still : i + 0 ≡ i = omega arith in rw still
+absent_past i (v ∷ vs) rest w =
     let small : v ≤ 65535 = w.0 in
     let count : i + suc (length vs) ≡ suc i + length vs = omega arith in
-    rw (ne_eqb v not_given (λ e. absurd (omega arith)), count) (absent-past (suc i) vs rest w.1)
+    rw (ne_eqb v not_given (λ e. absurd (omega arith)), count) (absent_past (suc i) vs rest w.1)
 
 as_given : (vs rest : List ℕ) → Within16 vs → map or_zero (vs ++ rest) ≡ vs ++ map or_zero rest
 as_given [] rest w = refl
 as_given (v ∷ vs) rest w = rw (le-leb v 65535 w.0) (ap (v ∷◌) (as_given vs rest w.1))
 
-pub none-missing : (given : List ℕ) → wanted given ≤ absent_from 0 given → missing given ≡ 22
-none-missing given h = rw (le-ltb (absent_from 0 given) (wanted given) h)
+pub none_missing : (given : List ℕ) → wanted given ≤ absent_from 0 given → missing given ≡ 22
+none_missing given h = rw (le-ltb (absent_from 0 given) (wanted given) h)
 
 pub says : (n : ℕ) (given : List ℕ) → missing given ≡ 22 → ended n given ≡ Says (table_of (map or_zero given))
 says n given e = rw e
@@ -146,7 +146,7 @@ module _ (vs : List ℕ) (k : ℕ) (size : length vs + k ≡ 22) (w : Within16 v
       → read_of (lines_from 0 vs) ≡ Says (table_of (vs ++ map or_zero (replicate k not_given)))
   reads_as h =
       all_read
-      ∙ says (suc (0 + length vs)) given (none-missing given (rw (absent-past 0 vs (replicate k not_given) w) h))
+      ∙ says (suc (0 + length vs)) given (none_missing given (rw (absent_past 0 vs (replicate k not_given) w) h))
       ∙ ap (λ l. Says (table_of l)) (as_given vs (replicate k not_given) w)
 
 pub printed_reads_back : (t : Table) → Within16 (entries t) → read_of (text_of t) ≡ Says t
@@ -156,7 +156,7 @@ printed_reads_back t w =
     (λ n.
     ap (λ l. read_of (lines_from 0 l)) (in_eighteen t n)
     ∙ reads_as (limits t) 4 refl (before (limits t) (table.delays t) w) (lit≤ tt)
-    ∙ ap Says (ap table_of (sym (in_eighteen t n)) ∙ same-table t))
+    ∙ ap Says (ap table_of (sym (in_eighteen t n)) ∙ same_table t))
     (λ n.
     ap (λ l. read_of (lines_from 0 l)) (in_twenty_two t n)
     ∙ reads_as (entries t) 0 refl w (fits t)

@@ -16,8 +16,8 @@ use Rattle.tabletext.specs.declared.Text.{Text}
 use Rattle.tabletext.specs.declared.Text.TheVariants.{Says, Wrong}
 use Rattle.tabletext.specs.Texts.{lines, nothing_given, absent_from, wanted, missing, or_zero, ended, read_from, read_of}
 use Rattle.tabletext.specs.Form.{Saying, WrongLine, WrongFirst}
-use Rattle.tabletext.proofs.RoundTrip.{says, none-missing}
-use Rattle.tabletext.proofs.LinesInWords.{lines-joined, in_lines, read_giving, Ends, walked}
+use Rattle.tabletext.proofs.RoundTrip.{says, none_missing}
+use Rattle.tabletext.proofs.LinesInWords.{lines_joined, in_lines, read_giving, Ends, walked}
 use Rattle.tabletext.proofs.GivenInWords as given
 use Rattle.tabletext.proofs.read.Reads as read_reads
 
@@ -27,9 +27,9 @@ a_text_that_says_a_table_is_read text t s =
     let ls = s.first ∷ s.further in
     let g = s.given in
     let n : length g ≡ 22 = given.kept_length ls nothing_given g s.gives in
-    ap (read_from 0 nothing_given) (ap lines s.whole ∙ lines-joined s.first s.further s.each)
+    ap (read_from 0 nothing_given) (ap lines s.whole ∙ lines_joined s.first s.further s.each)
     ∙ read_giving 0 ls nothing_given g s.gives
-    ∙ says (0 + length ls) g (none-missing g (given.enough_given g n s.limits s.delays))
+    ∙ says (0 + length ls) g (none_missing g (given.enough_given g n s.limits s.delays))
     ∙ ap Says (given.of_given t g n (given.bounded ls g s.gives) s.there s.absent)
 
 -- ---- and no other text is read so
@@ -84,8 +84,8 @@ a_text_that_is_read_says_the_table text t e =
       each = p.each;
       given = g;
       gives = w.giving;
-      limits = given.limits-given g h.0;
-      delays = given.delays-given g h.0;
+      limits = given.limits_given g h.0;
+      delays = given.delays_given g h.0;
       there = given.is_there g t h.1 (given.bounded (p.first ∷ p.further) g w.giving);
       absent = given.is_absent g t h.1;
     })
@@ -124,7 +124,7 @@ a_text_that_is_wrong text f e =
     (λ w.
     let g = w.after in
     let m = missing_at_the_end (length ls) g f (of_its_entries text (Wrong f) e w) in
-    let first = given.first-missing g (given.kept_length ls nothing_given g w.giving) m.0 in
+    let first = given.first_missing g (given.kept_length ls nothing_given g w.giving) m.0 in
     let at : missing g ≡ f.entry = ap (λ (k : Fault). k.entry) m.1 in
     let told = subst (given.FirstMissing g) at first in
     inr (record {

@@ -56,8 +56,8 @@ all_short [] h i = omega arith
 all_short (n ∷ ns) h zero = leb→le (length n) 21 (left (leb (length n) 21) (short ns) h)
 all_short (n ∷ ns) h (suc i) = all_short ns (right (leb (length n) 21) (short ns) h) i
 
-pub name-fits : (i : ℕ) → length (name i) ≤ 21
-name-fits = all_short names tt
+pub name_fits : (i : ℕ) → length (name i) ≤ 21
+name_fits = all_short names tt
 
 -- ---- a name at the start of a space
 abbrev pub Laid : ℕ → ℕ → List ℕ → List ℕ → Type 0

@@ -33,9 +33,9 @@ drop-leading : (c : Class) (l : List ℕ) → drop (length (leading c l)) l ≡ 
 drop-leading c [] = refl
 drop-leading c (b ∷ bs) = case (holds c b) (λ e. rw (e, drop-leading c bs)) (λ e. rw e)
 
-pub leading-fits : (c : Class) (l : List ℕ) → length (leading c l) ≤ length l
-leading-fits c [] = omega arith
-leading-fits c (b ∷ bs) = case (holds c b) (λ e. rw e (omega (arith, leading-fits c bs))) (λ e. rw e (omega arith))
+pub leading_fits : (c : Class) (l : List ℕ) → length (leading c l) ≤ length l
+leading_fits c [] = omega arith
+leading_fits c (b ∷ bs) = case (holds c b) (λ e. rw e (omega (arith, leading_fits c bs))) (λ e. rw e (omega arith))
 
 -- ---- the first word of a line, and what stands behind it, as parts of the line
 module _
@@ -53,7 +53,7 @@ module _
     pub word_fits : from + size ≤ length l
     word_fits =
         let size-of-rest : length (past Blank l) ≡ length l - from = ap length (sym rest) ∙ length-drop from l in
-        omega (arith, f, spans, leading-fits Blank l, leading-fits Letter (past Blank l))
+        omega (arith, f, spans, leading_fits Blank l, leading_fits Letter (past Blank l))
 
     pub word_is_there : take (from + size - from) (drop from l) ≡ word l
     word_is_there =

@@ -4,5 +4,5 @@ use mathlib.Core.Path.{sym, ◌∙◌}
 use Rattle.checks.specs.Determined.{Determined}
 use Rattle.trace.proofs.phase_after.Reads as phase_after_reads
 
-pub phase-after : Determined phase_after_reads.Post
-phase-after κs a x y at at' p q = p ∙ sym q
+pub phase_after : Determined phase_after_reads.Post
+phase_after κs a x y at at' p q = p ∙ sym q

@@ -69,26 +69,26 @@ Sound t (WrongAmount ∷ rs) = ⊥
 running : (p : ℕ) → T (leb 1 p) → T (leb p 21) → T (unfinished p)
 running p a b = both (leb 1 p) (leb p 21) a b
 
-allowed-step : (t : Table) (s : State) (x : Step) → Holds (checks t s (Means x)) → T (allowed_in s.phase x)
-allowed-step t s FromNeutral h = h.1.1.1.0
-allowed-step t s GearToGear h = h.1.1.1.0
-allowed-step t s ToNeutral h = h.1.1.1.0
-allowed-step t s Deliver h = running s.phase h.1.1.1.0 h.1.1.1.1.0
-allowed-step t s DeviceGood h = running s.phase h.1.1.1.0 h.1.1.1.1.0
-allowed-step t s DeviceFailed h = running s.phase h.1.1.1.0 h.1.1.1.1.0
-allowed-step t s EngineWaits h = running s.phase h.1.1.1.0 h.1.1.1.1.0
-allowed-step t s Take h = running s.phase h.1.1.1.0 h.1.1.1.1.0
-allowed-step t s AskClutch h =
+allowed_step : (t : Table) (s : State) (x : Step) → Holds (checks t s (Means x)) → T (allowed_in s.phase x)
+allowed_step t s FromNeutral h = h.1.1.1.0
+allowed_step t s GearToGear h = h.1.1.1.0
+allowed_step t s ToNeutral h = h.1.1.1.0
+allowed_step t s Deliver h = running s.phase h.1.1.1.0 h.1.1.1.1.0
+allowed_step t s DeviceGood h = running s.phase h.1.1.1.0 h.1.1.1.1.0
+allowed_step t s DeviceFailed h = running s.phase h.1.1.1.0 h.1.1.1.1.0
+allowed_step t s EngineWaits h = running s.phase h.1.1.1.0 h.1.1.1.1.0
+allowed_step t s Take h = running s.phase h.1.1.1.0 h.1.1.1.1.0
+allowed_step t s AskClutch h =
     let p = s.phase in
     let a = h.1.1.1.0 in
     let b = h.1.1.1.1.0 in
     let i = unfinished_in p (running p a b) in
     let o : 1 ≤ order_of p = ordered p i.0 (omega arith) in
     both (unfinished p) (engine p) (running p a b) (both (leb 1 (order_of p)) (leb (order_of p) 2) (omega (arith, tests)) h.1.1.1.1.1.1.0)
-allowed-step t s RaiseError h = running s.phase h.1.1.1.0 h.1.1.1.1.0
-allowed-step t s Finish h = h.1.1.1.0
-allowed-step t s (Tick n) h = tt
-allowed-step t s Reset h = h.1.1.1.0
+allowed_step t s RaiseError h = running s.phase h.1.1.1.0 h.1.1.1.1.0
+allowed_step t s Finish h = h.1.1.1.0
+allowed_step t s (Tick n) h = tt
+allowed_step t s Reset h = h.1.1.1.0
 
 clocked_step : (t : Table) (s : State) (x : Step) → Holds (checks t s (Means x)) → s.clock ≤ 4294967295 → (stepped (trace_of s) x).clock ≤ 4294967295
 clocked_step t s FromNeutral h c = c
@@ -113,6 +113,6 @@ accepted_sound t s (Means x ∷ rs) c e =
     let h = checked t s x w.0 in
     let k = clocked_step t s x h c in
     let same = projects_step s x in
-    (allowed-step t s x h, k, subst (λ q. Sound q rs) same (accepted_sound t (led s (Means x)) rs (subst (λ (q : Trace). q.clock ≤ 4294967295) (sym same) k) w.1))
+    (allowed_step t s x h, k, subst (λ q. Sound q rs) same (accepted_sound t (led s (Means x)) rs (subst (λ (q : Trace). q.clock ≤ 4294967295) (sym same) k) w.1))
 accepted_sound t s (WrongCode ∷ rs) c e = let w = went_on (guard t s WrongCode) (excess t s WrongCode (guard t s WrongCode)) s (run t (led s WrongCode) rs) e in absurd (omega arith)
 accepted_sound t s (WrongAmount ∷ rs) c e = let w = went_on (guard t s WrongAmount) (excess t s WrongAmount (guard t s WrongAmount)) s (run t (led s WrongAmount) rs) e in absurd (omega arith)

@@ -44,8 +44,8 @@ module _ (file buffer : List ℕ) (held offset : ℕ) (part : List ℕ) (l : off
       ∙ drop-take (held - offset) (length part) (drop offset file)
       ∙ rw (drop-drop (held - offset) offset file, there, count)
 
-  pub count-within : new_count held offset part ≤ length file
-  count-within = omega arith
+  pub count_within : new_count held offset part ≤ length file
+  count_within = omega arith
 
   joined_length : length (take held buffer ++ drop (held - offset) part) ≡ new_count held offset part
   joined_length =

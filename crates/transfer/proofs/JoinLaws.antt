@@ -23,11 +23,11 @@ from_is n xs = take_all (length xs - n) (drop n xs) (simp length-drop (omega ari
 
 module _ (buffer : List ℕ) (held offset : ℕ) (part : List ℕ) where
   -- ---- refused: the first check that fails gives its number, and all stays as it was
-  pub refused-at :
+  pub refused_at :
       (i : ℕ) → eqb (number_at (checks buffer held offset part) i) 0 ≡ false → Fails (checks buffer held offset part) i
       → (record { number = number_at (checks buffer held offset part) i; held = held } ≡ joined buffer held offset part)
       × (buffer ≡ buffer_after buffer held offset part)
-  refused-at i z f = let e = refused (checks buffer held offset part) i f in (rw (e, z), rw (e, z))
+  refused_at i z f = let e = refused (checks buffer held offset part) i f in (rw (e, z), rw (e, z))
 
   -- ---- accepted
   pub accepted :
@@ -81,23 +81,23 @@ module _ (buffer : List ℕ) (held offset : ℕ) (part : List ℕ) where
 
   -- a part that ends beyond them: its rest is copied into what is lent of the buffer, from the bytes held on
   module _ (l : offset ≤ held) (k : held - offset < length part) (fits : offset + length part ≤ length buffer) where
-    count-rest : new_count held offset part ≡ held + length (drop (held - offset) part)
-    count-rest = simp length-drop (omega arith)
+    count_rest : new_count held offset part ≡ held + length (drop (held - offset) part)
+    count_rest = simp length-drop (omega arith)
 
     module _ (lent : List ℕ)
         (copied :
         lent
         ≡ take (length (from held buffer)) (from (held - offset) part)
         ++ drop (length (from (held - offset) part)) (from held buffer)) where
-      appended-rest : put_mid held (length buffer - held) buffer lent ≡ appended buffer held offset part
-      appended-rest =
+      appended_rest : put_mid held (length buffer - held) buffer lent ≡ appended buffer held offset part
+      appended_rest =
           rw (
             copied,
             from_is (held - offset) part,
             from_is held buffer,
             take_all (length (drop held buffer)) (drop (held - offset) part) (simp length-drop (omega arith)),
             drop-drop (length (drop (held - offset) part)) held buffer,
-            ← count-rest,
+            ← count_rest,
             drop_of_length-le (drop held buffer) {i = length buffer - held} (simp length-drop (omega arith)),
             append-nil (drop (held - offset) part ++ drop (new_count held offset part) buffer),
           )
@@ -107,4 +107,4 @@ module _ (buffer : List ℕ) (held offset : ℕ) (part : List ℕ) where
           refusal buffer held offset part ≡ 0
           → (record { number = 0; held = offset + length part } ≡ joined buffer held offset part)
           × (put_mid held (length buffer - held) buffer lent ≡ buffer_after buffer held offset part)
-      beyond e = let end : new_count held offset part ≡ offset + length part = omega arith in (rw (e, end), rw e appended-rest)
+      beyond e = let end : new_count held offset part ≡ offset + length part = omega arith in (rw (e, end), rw e appended_rest)

@@ -16,7 +16,7 @@ use Rattle.checks.proofs.Tests.{tests, case}
 use Rattle.transfer.specs.Join.{checks, new_count, appended}
 use Rattle.transfer.specs.Transfers.{Arrival, Store, empty, answer, after, after_all, Cut, AcceptedCut, Begins, Reaches}
 use Rattle.transfer.proofs.JoinLaws.{accepted, length-appended, held_stay, beyond_stay}
-use Rattle.transfer.proofs.CutLaws.{overlap_agrees, count-within, still_begins}
+use Rattle.transfer.proofs.CutLaws.{overlap_agrees, count_within, still_begins}
 
 -- ---- one part: a refused one leaves what is stored, an accepted one is appended
 module _ (s : Store) (a : Arrival) where
@@ -49,7 +49,7 @@ module _ (s : Store) (a : Arrival) where
   grown_begins : (file : List ℕ) → Begins file s → Cut file a → a.offset ≤ s.held → Begins file grown
   grown_begins file b c l =
       record {
-        within = count-within file s.buffer s.held a.offset a.part l b.within b.bytes c.within c.bytes;
+        within = count_within file s.buffer s.held a.offset a.part l b.within b.bytes c.within c.bytes;
         bytes = still_begins file s.buffer s.held a.offset a.part l b.within b.bytes c.within c.bytes;
       }
 
@@ -79,11 +79,11 @@ step_begins file s a b cut =
     (λ e. let h = accepted_holds s a e in grown_begins s a file b (cut e) (omega (arith, tests)))
     b
 
-all-begin :
+all_begin :
     (file : List ℕ) (s : Store) (arrivals : List Arrival) → Begins file s → AcceptedCut file s arrivals
     → Begins file (after_all s arrivals)
-all-begin file s [] b c = b
-all-begin file s (a ∷ arrivals) b c = all-begin file (after s a) arrivals (step_begins file s a b c.0) c.1
+all_begin file s [] b c = b
+all_begin file s (a ∷ arrivals) b c = all_begin file (after s a) arrivals (step_begins file s a b c.0) c.1
 
 empty_begins : (file buffer : List ℕ) → Begins file (empty buffer)
 empty_begins file buffer = record { within = omega arith; bytes = refl }
@@ -91,7 +91,7 @@ empty_begins file buffer = record { within = omega arith; bytes = refl }
 pub beginning :
     (file buffer : List ℕ) (arrivals : List Arrival) → AcceptedCut file (empty buffer) arrivals
     → Begins file (after_all (empty buffer) arrivals)
-beginning file buffer arrivals c = all-begin file (empty buffer) arrivals (empty_begins file buffer) c
+beginning file buffer arrivals c = all_begin file (empty buffer) arrivals (empty_begins file buffer) c
 
 -- ---- the parts that are accepted reach to where the held bytes end
 reached :
@@ -157,8 +157,8 @@ module _ (file : List ℕ) where
 
     module _ (room : length file ≤ length buffer) where
       -- and they reach no further
-      pub none-further : (far : ℕ) → Reaches file 0 far arrivals → far ≤ (after_all (empty buffer) arrivals).held
-      none-further far = no_further (empty buffer) arrivals 0 far (empty_begins file buffer) room c (omega arith)
+      pub none_further : (far : ℕ) → Reaches file 0 far arrivals → far ≤ (after_all (empty buffer) arrivals).held
+      none_further far = no_further (empty buffer) arrivals 0 far (empty_begins file buffer) room c (omega arith)
 
       -- where they reach the file's end, all of it is held
       pub whole :
@@ -169,7 +169,7 @@ module _ (file : List ℕ) where
           let end = after_all (empty buffer) arrivals in
           let begins = beginning file buffer arrivals c in
           let inside : end.held ≤ length file = begins.within in
-          let far = none-further (length file) v in
+          let far = none_further (length file) v in
           let count : end.held ≡ length file = omega arith in (
             count,
             ap (λ (n : ℕ). take n end.buffer) (sym count)

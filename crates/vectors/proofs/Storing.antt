@@ -13,5 +13,5 @@ module _ (read : ℕ → ℕ) (step at n i : ℕ) (l : List ℕ) where
   pub stored : i < n → sets l i (numbers_at read step at (n - i)) ≡ sets (set l i (read at)) (i + 1) (numbers_at read step (at + step) (n - (i + 1)))
   stored h = let more : n - i ≡ suc (n - (i + 1)) = omega arith in rw (more, add-one i)
 
-  pub all-stored : n ≤ i → sets l i (numbers_at read step at (n - i)) ≡ l
-  all-stored h = let none : n - i ≡ 0 = omega arith in rw none
+  pub all_stored : n ≤ i → sets l i (numbers_at read step at (n - i)) ≡ l
+  all_stored h = let none : n - i ≡ 0 = omega arith in rw none

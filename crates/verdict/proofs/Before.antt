@@ -10,7 +10,7 @@ use Rattle.shift.specs.States.{start}
 use Rattle.shift.specs.Runs.{run_by}
 use Rattle.stepfile.specs.Files.{table_in, refusal_of, readings_of}
 use Rattle.verdict.specs.declared.Verdict.{Verdict}
-use Rattle.verdict.proofs.Judging.{read-verdict}
+use Rattle.verdict.proofs.Judging.{read_verdict}
 use Rattle.verdict.proofs.Verdicts.{outcome}
 use Rattle.verdict.proofs.KnownFiles.{Answered, answered}
 
@@ -21,4 +21,4 @@ pub files_are_judged_as_before :
 files_are_judged_as_before f z w =
     let old = run_by led_before (table_in f) start (readings_of f) in
     answered f (λ v. Agree old (outcome v))
-    (subst (λ (v : Verdict). Agree old (outcome v)) (read-verdict f z) (old_and_new_agree (table_in f) (readings_of f) w))
+    (subst (λ (v : Verdict). Agree old (outcome v)) (read_verdict f z) (old_and_new_agree (table_in f) (readings_of f) w))

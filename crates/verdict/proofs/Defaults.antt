@@ -25,7 +25,7 @@ use Rattle.stepfile.specs.contracts.write.write as write_call
 use Rattle.stepfile.proofs.write.write.Reads as write_reads
 use Rattle.verdict.specs.declared.Verdict.{Verdict}
 use Rattle.verdict.specs.Verdicts.{of_run, verdict_of}
-use Rattle.verdict.proofs.Judging.{read-verdict}
+use Rattle.verdict.proofs.Judging.{read_verdict}
 use Rattle.verdict.proofs.KnownFiles as known
 use Rattle.verdict.proofs.KnownFiles.{told, Answered, answered}
 use Rattle.verdict.proofs.WrittenFiles.{bytes, written_is_judged_as_given}
@@ -34,7 +34,7 @@ use Rattle.verdict.proofs.WrittenFiles.{bytes, written_is_judged_as_given}
 under_the_old_default :
     (f : List ℕ) → (refusal_of f).number ≡ 0 → table_entries f ≡ 0 → verdict_of f ≡ of_run (run by_old_default start (readings_of f))
 under_the_old_default f z k =
-    sym (read-verdict f z) ∙ ap (λ t. of_run (run t start (readings_of f))) (without_entries f k)
+    sym (read_verdict f z) ∙ ap (λ t. of_run (run t start (readings_of f))) (without_entries f k)
 
 -- whatever the contract of `judge` allows as the verdict on a good file without a table
 pub files_without_a_table_are_judged_under_the_old_default :

@@ -68,13 +68,13 @@ read zero r o z = refl
 read (suc k) r o z = absurd (omega arith)
 
 module _ (f : List ℕ) where
-  pub unread-file : ¬ ((refusal_of f).number ≡ 0) → unread (refusal_of f) ≡ verdict_of f
-  unread-file = not_read (refusal_of f).number (refusal_of f) (run (table_in f) start (readings_of f))
+  pub unread_file : ¬ ((refusal_of f).number ≡ 0) → unread (refusal_of f) ≡ verdict_of f
+  unread_file = not_read (refusal_of f).number (refusal_of f) (run (table_in f) start (readings_of f))
 
-  pub read-verdict : (refusal_of f).number ≡ 0 → of_run (run (table_in f) start (readings_of f)) ≡ verdict_of f
-  read-verdict = read (refusal_of f).number (refusal_of f) (run (table_in f) start (readings_of f))
+  pub read_verdict : (refusal_of f).number ≡ 0 → of_run (run (table_in f) start (readings_of f)) ≡ verdict_of f
+  read_verdict = read (refusal_of f).number (refusal_of f) (run (table_in f) start (readings_of f))
 
-  pub read-file : (refusal_of f).number ≡ 0 → of_run (run (table_in f) start (records_in (from_offset f))) ≡ verdict_of f
-  read-file z =
+  pub read_file : (refusal_of f).number ≡ 0 → of_run (run (table_in f) start (records_in (from_offset f))) ≡ verdict_of f
+  read_file z =
       let bytes : from_offset f ≡ record_bytes f = ap (λ b. cond b (from_offset f) []) (sym (eq-eqb (refusal_of f).number 0 z)) in
-      ap (λ l. of_run (run (table_in f) start (records_in l))) bytes ∙ read-verdict z
+      ap (λ l. of_run (run (table_in f) start (records_in l))) bytes ∙ read_verdict z

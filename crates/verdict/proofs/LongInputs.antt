@@ -19,7 +19,7 @@ use Rattle.stepfile.specs.Files.{most_records, headed_by, headed, table_offset, 
 use Rattle.stepfile.proofs.EntryLaws.{Few, few, most_between}
 use Rattle.stepfile.proofs.FileLaws.{header_refused}
 use Rattle.verdict.specs.Verdicts.{unread, verdict_of}
-use Rattle.verdict.proofs.Judging.{unread-file}
+use Rattle.verdict.proofs.Judging.{unread_file}
 
 -- the header's refusal of a file that is too long: 2 by a field, else 3
 abbrev by_field : Bool → Bool → Bool → Bool → ℕ
@@ -83,18 +83,18 @@ module _ (f : List ℕ) (h : 65536 < length f) where
       (eqb (record_offset f) (12 + 2 * table_entries f)) (leb (record_count f) (most_records (table_entries f)))
       (sym (long_header (length f) (table_offset f) (table_entries f) (record_offset f) (record_count f) h) ∙ e)
 
-  same-refusal : refusal_of g ≡ refusal_of f
-  same-refusal =
+  same_refusal : refusal_of g ≡ refusal_of f
+  same_refusal =
       sym (header_refused g {h = first (headed g)} refl (λ e. not_good (sym same_header ∙ e)))
       ∙ ap (λ n. record { number = n; rule = 0 }) same_header
       ∙ header_refused f {h = first (headed f)} refl not_good
 
-  refused-number : ¬ ((refusal_of f).number ≡ 0)
-  refused-number e =
+  refused_number : ¬ ((refusal_of f).number ≡ 0)
+  refused_number e =
       not_good (ap (λ (r : Refusal). r.number) (header_refused f {h = first (headed f)} refl not_good) ∙ e)
 
   pub its_beginning_has_the_verdict : verdict_of (take 65537 f) ≡ verdict_of f
   its_beginning_has_the_verdict =
-      sym (unread-file g (λ e. refused-number (ap (λ (r : Refusal). r.number) (sym same-refusal) ∙ e)))
-      ∙ ap unread same-refusal
-      ∙ unread-file f refused-number
+      sym (unread_file g (λ e. refused_number (ap (λ (r : Refusal). r.number) (sym same_refusal) ∙ e)))
+      ∙ ap unread same_refusal
+      ∙ unread_file f refused_number

@@ -15,7 +15,7 @@ use Rattle.promises.proofs.OldFleet.{nothing_changed_for_the_old_fleet}
 use Rattle.shift.specs.States.{start}
 use Rattle.stepfile.specs.Files.{table_entries, table_in, refusal_of, readings_of}
 use Rattle.verdict.specs.declared.Verdict.{Verdict}
-use Rattle.verdict.proofs.Judging.{read-verdict}
+use Rattle.verdict.proofs.Judging.{read_verdict}
 use Rattle.verdict.proofs.Verdicts.{outcome}
 use Rattle.verdict.proofs.KnownFiles.{Answered, answered}
 
@@ -25,8 +25,8 @@ unfolding table_in
 files_of_the_old_fleet_have_no_delays f n =
     rw (ne_eqb (table_entries f) 22 n)
     (case (eqb (table_entries f) 18 && leb 48 (length f))
-    (λ e. rw e (record { plain_open = refl; error_open = refl; plain-close = refl; error-close = refl }))
-    (λ e. rw e (record { plain_open = refl; error_open = refl; plain-close = refl; error-close = refl })))
+    (λ e. rw e (record { plain_open = refl; error_open = refl; plain_close = refl; error_close = refl }))
+    (λ e. rw e (record { plain_open = refl; error_open = refl; plain_close = refl; error_close = refl })))
 
 -- whatever the contract of `judge` allows as the verdict on such a file
 pub files_of_the_old_fleet_are_judged_as_before :
@@ -35,4 +35,4 @@ pub files_of_the_old_fleet_are_judged_as_before :
 files_of_the_old_fleet_are_judged_as_before f z d =
     let old = run_before (table_in f) start (readings_of f) in
     answered f (λ v. old ≡ outcome v)
-    (subst (λ (v : Verdict). old ≡ outcome v) (read-verdict f z) (nothing_changed_for_the_old_fleet (table_in f) d (readings_of f)))
+    (subst (λ (v : Verdict). old ≡ outcome v) (read_verdict f z) (nothing_changed_for_the_old_fleet (table_in f) d (readings_of f)))

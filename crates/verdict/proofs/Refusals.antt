@@ -34,7 +34,7 @@ use Rattle.verdict.specs.declared.Verdict.{Verdict}
 use Rattle.verdict.specs.Verdicts.{unread, verdict_of}
 use Rattle.verdict.specs.Said.{line_for}
 use Rattle.verdict.specs.Refusals.{refusals_at, HowFarAt, JudgeAnswers}
-use Rattle.verdict.proofs.Judging.{unread-file, read-verdict}
+use Rattle.verdict.proofs.Judging.{unread_file, read_verdict}
 use Rattle.verdict.proofs.Verdicts.{read_files}
 use Rattle.verdict.proofs.judge.Reads as judge_reads
 use Rattle.verdict.proofs.line.Reads as line_reads_lem
@@ -86,7 +86,7 @@ module _ (f : List ℕ) where
         (guard_numbers (table_in f) verdict.state (at (readings_of f) verdict.index)))
 
     read_rule : verdict.rule ≡ 0
-    read_rule = ap (λ (v : Verdict). v.rule) (sym (read-verdict f z))
+    read_rule = ap (λ (v : Verdict). v.rule) (sym (read_verdict f z))
 
     refused_there : ¬ (verdict.number ≡ 0) → FirstOf (refusals_at f verdict.index verdict.state) verdict.number
     refused_there n =
@@ -141,7 +141,7 @@ module _ (f : List ℕ) where
       (λ t. is_read (eqb-true (refusal_of f).number 0 t))
       (λ t.
       let n = eqb-false (refusal_of f).number 0 t in
-      subst (JudgeAnswers f) (unread-file f n) (not_read n))
+      subst (JudgeAnswers f) (unread_file f n) (not_read n))
 
 pub judge : (κs : _) (a : _) (r : _) (at : _) → judge_reads.Post κs a r at → JudgeAnswers a.0.now r
 judge κs a r at p = subst (JudgeAnswers a.0.now) (sym p) (judge_answers a.0.now)

@@ -20,13 +20,13 @@ use Rattle.stepfile.specs.contracts.write.write as write_call
 use Rattle.stepfile.proofs.write.write.Reads as write_reads
 use Rattle.verdict.specs.declared.Verdict.{Verdict}
 use Rattle.verdict.specs.Verdicts.{of_run, verdict_of}
-use Rattle.verdict.proofs.Judging.{read-verdict}
+use Rattle.verdict.proofs.Judging.{read_verdict}
 use Rattle.verdict.specs.contracts.judge as judge_call
 use Rattle.verdict.proofs.judge.Reads as judge_reads
 
 pub judged_as_given : (t : Table) (steps : List Reading) (f : List ℕ) → GoodFileOf t steps f → verdict_of f ≡ of_run (run t start steps)
 judged_as_given t steps f g =
-    sym (read-verdict f g.good)
+    sym (read_verdict f g.good)
     ∙ ap (λ u. of_run (run u start (readings_of f))) g.table
     ∙ ap (λ rs. of_run (run t start rs)) g.read
 

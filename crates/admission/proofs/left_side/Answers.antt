@@ -2,7 +2,7 @@
 -- Assumes nothing.
 use mathlib.Core.Path.{sym, ap, ◌∙◌}
 use lib.ListN.{get_or-eq_default}
-use Rattle.checks.proofs.Ranges.{past-arms}
+use Rattle.checks.proofs.Ranges.{past_arms}
 use Rattle.admission.specs.declared.RouteSums.{RouteSums}
 use Rattle.admission.specs.Broken.{left_sides, left_side}
 use Rattle.admission.proofs.left_side.Goals as goal
@@ -56,4 +56,4 @@ pub returns-in-15 : goal.returns-in-15
 returns-in-15 c = ap (λ (s : RouteSums). s.g2) c.sums-in-15.ensures ∙ ap (left_side c.args.table) (sym c.in-15.is)
 
 pub returns-in_default : goal.returns-in_default
-returns-in_default c = let a = c.args in sym (get_or-eq_default (left_sides a.table) 0 {n = a.rule} (past-arms 16 a.rule c.in_default.in_default-own.rest))
+returns-in_default c = let a = c.args in sym (get_or-eq_default (left_sides a.table) 0 {n = a.rule} (past_arms 16 a.rule c.in_default.in_default-own.rest))

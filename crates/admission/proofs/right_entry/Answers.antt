@@ -2,7 +2,7 @@
 -- Assumes nothing.
 use mathlib.Core.Path.{sym}
 use lib.ListN.{get_or-eq_default}
-use Rattle.checks.proofs.Ranges.{past-arms}
+use Rattle.checks.proofs.Ranges.{past_arms}
 use Rattle.admission.specs.Broken.{right_entries}
 use Rattle.admission.proofs.right_entry.Goals as goal
 
@@ -55,4 +55,4 @@ pub returns-in-15 : goal.returns-in-15
 returns-in-15 c = rw c.in-15.is
 
 pub returns-in_default : goal.returns-in_default
-returns-in_default c = let rule = c.args.rule in sym (get_or-eq_default right_entries 22 {n = rule} (past-arms 16 rule c.in_default.in_default-own.rest))
+returns-in_default c = let rule = c.args.rule in sym (get_or-eq_default right_entries 22 {n = rule} (past_arms 16 rule c.in_default.in_default-own.rest))

@@ -5,7 +5,7 @@ use Prim.Native.Nat.{◌≤◌, ◌<◌}
 use borrow.Author.Tests.{le-leb, lt-leb}
 use Rattle.shift.specs.Steps.{limited}
 use Rattle.deadlines.specs.Deadlines.{stage_end_of}
-use Rattle.deadlines.proofs.DeadlineLaws.{past-stage, in_stage}
+use Rattle.deadlines.proofs.DeadlineLaws.{past_stage, in_stage}
 use Rattle.deadlines.proofs.late.Goals as goal
 
 pub returns-then-deadline-clock : goal.returns-then-deadline-clock
@@ -14,7 +14,7 @@ returns-then-deadline-clock c =
     let past = subst (λ d. d < a.clock) c.deadline.ensures c.if-deadline-clock.true in
     rw (
       le-leb a.clock 4294967295 c.if-clock-gt4294967295.false,
-      past-stage (stage_end_of a.device a.channel a.state) a.clock (limited a.state) past,
+      past_stage (stage_end_of a.device a.channel a.state) a.clock (limited a.state) past,
     )
 
 pub returns : goal.returns

@@ -2,7 +2,7 @@
 -- Assumes nothing.
 use mathlib.Core.Path.{sym}
 use lib.ListN.{get_or-eq_default}
-use Rattle.checks.proofs.Ranges.{past-arms}
+use Rattle.checks.proofs.Ranges.{past_arms}
 use Rattle.manual_reading.specs.Reading.{stage, stages, stage_of}
 use Rattle.manual_reading.proofs.stage_of.Goals as goal
 
@@ -10,7 +10,7 @@ pub returns-in_default : goal.returns-in_default
 unfolding stage_of
 returns-in_default c =
     let a = c.args in
-    sym (get_or-eq_default (stages a.v a.start) (stage 0 0) {n = a.order} (past-arms 7 a.order c.in_default.in_default-own.rest))
+    sym (get_or-eq_default (stages a.v a.start) (stage 0 0) {n = a.order} (past_arms 7 a.order c.in_default.in_default-own.rest))
 
 pub returns-in-0 : goal.returns-in-0
 unfolding stage_of

@@ -6,7 +6,7 @@ use native.Mathlib.Omega.{arith}
 use Rattle.manual.specs.Variables.{pass}
 use Rattle.manual.specs.Ticks.{tick_excess}
 use Rattle.manual.proofs.AnswerLaws.{refuses, accepts}
-use Rattle.manual_ticks.proofs.TickLaws.{past_clock, in_clock, past-stage, in_stage, past-phase, in_phase}
+use Rattle.manual_ticks.proofs.TickLaws.{past_clock, in_clock, past_stage, in_stage, past_phase, in_phase}
 use Rattle.manual_ticks.proofs.Tick_Tock.Goals as goal
 
 pub returns-then-clock-ne0 : goal.returns-then-clock-ne0
@@ -20,7 +20,7 @@ returns-then-stage-ne0 c =
     let a = c.args in
     let r =
     in_clock a.table a.v a.tick c.beyond-clock.ensures c.if-clock-ne0.false
-    (past-stage a.table a.v a.tick c.stage_limits-stage.ensures c.if-stage-ne0.true) in
+    (past_stage a.table a.v a.tick c.stage_limits-stage.ensures c.if-stage-ne0.true) in
     refuses 12 c.stage_limits-stage.result (pass a.tick a.v) a.v r.number r.excess (λ e. omega arith)
 
 pub returns-then-phase-ne0 : goal.returns-then-phase-ne0
@@ -29,7 +29,7 @@ returns-then-phase-ne0 c =
     let r =
     in_clock a.table a.v a.tick c.beyond-clock.ensures c.if-clock-ne0.false
     (in_stage a.table a.v a.tick c.stage_limits-stage.ensures c.if-stage-ne0.false
-    (past-phase a.table a.v a.tick c.phase_limits-phase.ensures c.if-phase-ne0.true)) in
+    (past_phase a.table a.v a.tick c.phase_limits-phase.ensures c.if-phase-ne0.true)) in
     refuses 11 c.phase_limits-phase.result (pass a.tick a.v) a.v r.number r.excess (λ e. omega arith)
 
 pub overflow_add-after : goal.overflow_add-after

@@ -4,7 +4,7 @@ use mathlib.Core.List.{[], ◌∷◌}
 use Prim.Native.Nat.{zero-le}
 use native.Mathlib.Omega.{arith}
 use Rattle.phases.specs.Phases.{Row, clutch_of}
-use Rattle.phases.proofs.CaseLaws.{otherwise, past-working}
+use Rattle.phases.proofs.CaseLaws.{otherwise, past_working}
 use Rattle.phases.proofs.clutch_of.Goals as goal
 
 pub returns-in-0 : goal.returns-in-0
@@ -26,7 +26,7 @@ pub returns-in_default-phase : goal.returns-in_default-phase
 returns-in_default-phase c = otherwise 0 clutch_of (17 ∷ 10 ∷ 6 ∷ 1 ∷ []) 0 22 (omega arith) _ zero-le c.in-1-to-21.if-phase-lt22-own.true c.in_default-phase.in_default-phase-own.rest
 
 pub returns-in-22-to-23 : goal.returns-in-22-to-23
-returns-in-22-to-23 c = past-working (λ (r : Row). r.clutch) _ c.in-22-to-23.if-phase-lt22-own.false
+returns-in-22-to-23 c = past_working (λ (r : Row). r.clutch) _ c.in-22-to-23.if-phase-lt22-own.false
 
 pub returns-in_default : goal.returns-in_default
-returns-in_default c = past-working (λ (r : Row). r.clutch) _ c.in_default.if-phase-lt22-own.false
+returns-in_default c = past_working (λ (r : Row). r.clutch) _ c.in_default.if-phase-lt22-own.false

@@ -1,6 +1,6 @@
 -- `earliest_ask` meets its contract: each arm by its order, and past them there is no entry.
 -- Assumes nothing.
-use Rattle.checks.proofs.Ranges.{past-arms}
+use Rattle.checks.proofs.Ranges.{past_arms}
 use Rattle.phases.specs.Phases.{de_entries}
 use Rattle.phases.proofs.PhaseLaws.{no_limit}
 use Rattle.phases.proofs.earliest_ask.Goals as goal
@@ -15,4 +15,4 @@ pub returns-in-2 : goal.returns-in-2
 returns-in-2 c = rw c.in-2.is
 
 pub returns-in_default : goal.returns-in_default
-returns-in_default c = no_limit de_entries c.args.table c.args.order (past-arms 3 c.args.order c.in_default.in_default-own.rest)
+returns-in_default c = no_limit de_entries c.args.table c.args.order (past_arms 3 c.args.order c.in_default.in_default-own.rest)

@@ -4,7 +4,7 @@ use mathlib.Core.List.{[], ◌∷◌}
 use Prim.Native.Nat.{zero-le}
 use native.Mathlib.Omega.{arith}
 use Rattle.phases.specs.Phases.{Row, set, close, order_of}
-use Rattle.phases.proofs.CaseLaws.{otherwise, past-working}
+use Rattle.phases.proofs.CaseLaws.{otherwise, past_working}
 use Rattle.phases.proofs.order_of.Goals as goal
 
 pub returns-in-0 : goal.returns-in-0
@@ -83,10 +83,10 @@ pub returns-in_default-phase : goal.returns-in_default-phase
 returns-in_default-phase c = otherwise 0 order_of [] 0 1 (omega arith) _ zero-le c.in_default-phase.if-phase-lt1-own.true tt
 
 pub returns-in_default-phase-5 : goal.returns-in_default-phase-5
-returns-in_default-phase-5 c = past-working (λ (r : Row). r.order) _ c.in_default-phase.if-phase-lt22-2-own.false
+returns-in_default-phase-5 c = past_working (λ (r : Row). r.order) _ c.in_default-phase.if-phase-lt22-2-own.false
 
 pub returns-in-22-to-23 : goal.returns-in-22-to-23
-returns-in-22-to-23 c = past-working (λ (r : Row). r.order) _ c.in-22-to-23.if-phase-lt22-own.false
+returns-in-22-to-23 c = past_working (λ (r : Row). r.order) _ c.in-22-to-23.if-phase-lt22-own.false
 
 pub returns-in_default : goal.returns-in_default
-returns-in_default c = past-working (λ (r : Row). r.order) _ c.in_default.if-phase-lt22-own.false
+returns-in_default c = past_working (λ (r : Row). r.order) _ c.in_default.if-phase-lt22-own.false

@@ -2,7 +2,7 @@
 -- Assumes nothing.
 use mathlib.Core.Path.{sym}
 use lib.ListN.{get_or-eq_default}
-use Rattle.checks.proofs.Ranges.{past-arms}
+use Rattle.checks.proofs.Ranges.{past_arms}
 use Rattle.phases.specs.Phases.{phase_entries}
 use Rattle.phases.proofs.phase_entry.Goals as goal
 
@@ -28,4 +28,4 @@ pub returns-in-6 : goal.returns-in-6
 returns-in-6 c = rw c.in-6.is
 
 pub returns-in_default : goal.returns-in_default
-returns-in_default c = let order = c.args.order in sym (get_or-eq_default phase_entries 22 {n = order} (past-arms 7 order c.in_default.in_default-own.rest))
+returns-in_default c = let order = c.args.order in sym (get_or-eq_default phase_entries 22 {n = order} (past_arms 7 order c.in_default.in_default-own.rest))

@@ -3,7 +3,7 @@
 use mathlib.Core.Path.{◌≡◌, sym, ap, ◌∙◌}
 use native.Mathlib.Omega.{arith}
 use Rattle.shift.specs.Answers.{refusal}
-use Rattle.shift.proofs.ReadingLaws.{past-codes, alike}
+use Rattle.shift.proofs.ReadingLaws.{past_codes, alike}
 use Rattle.shift.proofs.refusal_of.Goals as goal
 
 pub returns-then-code-lt1 : goal.returns-then-code-lt1
@@ -12,7 +12,7 @@ returns-then-code-lt1 c = let zero-code : c.args.code ≡ 0 = omega arith in rw 
 pub returns-then-code-gt13 : goal.returns-then-code-gt13
 returns-then-code-gt13 c =
     let a = c.args in
-    sym (ap refusal (past-codes a.middle a.amount a.code c.if-code-gt13.true))
+    sym (ap refusal (past_codes a.middle a.amount a.code c.if-code-gt13.true))
 
 pub returns-then-code-eq12 : goal.returns-then-code-eq12
 returns-then-code-eq12 c = rw (c.if-code-eq12.true, c.refusal.ensures, c.ticking.ensures)

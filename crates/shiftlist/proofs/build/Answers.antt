@@ -5,8 +5,8 @@ use Rattle.stepfile.specs.Files.{from_offset}
 use Rattle.verdict.specs.declared.Verdict.{Verdict}
 use Rattle.shiftlist.specs.Lists.{listed_long}
 use Rattle.shiftlist.specs.Walks.{laid_size, laid_in}
-use Rattle.shiftlist.proofs.BuildLaws.{begin, few_records, at_judge, not_laid, was-laid}
-use Rattle.shiftlist.proofs.LaidLaws.{none-laid, some_laid}
+use Rattle.shiftlist.proofs.BuildLaws.{begin, few_records, at_judge, not_laid, was_laid}
+use Rattle.shiftlist.proofs.LaidLaws.{none_laid, some_laid}
 use Rattle.shiftlist.proofs.build.Goals as goal
 
 pub returns-then-number-ne0 : goal.returns-then-number-ne0
@@ -24,7 +24,7 @@ returns-then-size-eq0 c =
     let f = a.file.now in
     let z = sym (ap (λ (v : Verdict). v.number) c.judge-verdict.ensures) ∙ c.if-number-ne0.false in
     let bytes = c.from_offset.ensures in
-    let n = none-laid a.out.now 8 begin 0 (from_offset f) (few_records f z) (omega arith, omega arith) c.lay-size.result
+    let n = none_laid a.out.now 8 begin 0 (from_offset f) (few_records f z) (omega arith, omega arith) c.lay-size.result
     (c.lay-size.ensures.value ∙ ap (laid_size a.out.now 8 begin 0) bytes) c.if-size-eq0.true
     in
     let k = not_laid f a.out.now z n.0 in record {
@@ -41,7 +41,7 @@ returns c =
     let n = some_laid a.out.now 8 begin 0 (from_offset f) (few_records f z) (omega arith, omega arith) c.lay-size.result
     (c.lay-size.ensures.value ∙ ap (laid_size a.out.now 8 begin 0) bytes) c.if-size-eq0.false
     in
-    let k = was-laid f a.out.now z n.0 in record {
+    let k = was_laid f a.out.now z n.0 in record {
       value = c.long.ensures ∙ ap listed_long n.1 ∙ k.0;
       out_after = c.lay-size.ensures.list_after ∙ ap (laid_in a.out.now 8 begin 0) bytes ∙ n.2 ∙ k.1;
     }

@@ -8,7 +8,7 @@ use lib.Dec.{eqb}
 use Rattle.verdict.specs.declared.Verdict.{Verdict}
 use Rattle.verdict.proofs.Verdicts.{outcome}
 use Rattle.shiftlist.specs.Lists.{refused_by}
-use Rattle.shiftlist_extend.proofs.ExtendLaws.{index_small, by_rule, at_ground, at-run, by_size}
+use Rattle.shiftlist_extend.proofs.ExtendLaws.{index_small, by_rule, at_ground, at_run, by_size}
 use Rattle.shiftlist_extend.proofs.extend.Goals as goal
 
 pub returns-then-number-ne0 : goal.returns-then-number-ne0
@@ -43,7 +43,7 @@ returns-then-number-ne0-2 c =
     let most = c.most_for-most in
     let e = by_rule a.list.now a.held a.state a.count a.table a.records.now rule.result most.result c.ground-number.result rule.ensures most.ensures c.ground-number.ensures in
     let n =
-    at-run a.list.now a.held a.state a.count a.table a.records.now (sym e ∙ c.if-number-ne0.false)
+    at_run a.list.now a.held a.state a.count a.table a.records.now (sym e ∙ c.if-number-ne0.false)
     (outcome v.result) (ap outcome v.ensures) c.if-number-ne0-2.true
     in record {
       value = c.refused-then-number-ne0-2.ensures ∙ n.0;

@@ -6,7 +6,7 @@ use native.Mathlib.Omega.{arith}
 use lib.ListN.{length-set, replicate}
 use lib.Seq.{sets}
 use Rattle.numbers.specs.Bytes.{u16s_at}
-use Rattle.stepfile.proofs.ByteLaws.{stored, all-stored}
+use Rattle.stepfile.proofs.ByteLaws.{stored, all_stored}
 use Rattle.stepfile.proofs.entries_at.Goals as goal
 
 pub loop-i-init : goal.loop-i-init
@@ -28,4 +28,4 @@ pub returns : goal.returns
 returns c =
     let l = c.loop-i in
     let a = c.args in
-    sym (l.invariant.2 ∙ all-stored l.entries a.file.now a.count l.i c.loop-i-test.false)
+    sym (l.invariant.2 ∙ all_stored l.entries a.file.now a.count l.i c.loop-i-test.false)

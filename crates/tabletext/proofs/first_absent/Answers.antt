@@ -3,7 +3,7 @@
 use mathlib.Core.Path.{refl, sym, ◌∙◌}
 use native.Mathlib.Numerals.{add-one}
 use native.Mathlib.Omega.{arith}
-use Rattle.tabletext.proofs.GivenLaws.{absent_here, given_here, all-given}
+use Rattle.tabletext.proofs.GivenLaws.{absent_here, given_here, all_given}
 use Rattle.tabletext.proofs.first_absent.Goals as goal
 
 pub returns-then-given-entry-eq-NOT_GIVEN : goal.returns-then-given-entry-eq-NOT_GIVEN
@@ -22,7 +22,7 @@ pub returns : goal.returns
 returns c =
     let l = c.loop-entry in
     let a = c.args in
-    sym (l.invariant.1 ∙ all-given a.given.now l.entry (omega arith))
+    sym (l.invariant.1 ∙ all_given a.given.now l.entry (omega arith))
 
 pub loop-entry-init : goal.loop-entry-init
 loop-entry-init c = (omega arith, refl)

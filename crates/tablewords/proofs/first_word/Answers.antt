@@ -2,7 +2,7 @@
 -- Assumes nothing.
 use native.Mathlib.Omega.{arith}
 use Rattle.tablewords.specs.declared.Class.TheVariants.{Blank}
-use Rattle.tablewords.proofs.WordLaws.{leading-fits, word_fits, word_is_there, behind_is_there}
+use Rattle.tablewords.proofs.WordLaws.{leading_fits, word_fits, word_is_there, behind_is_there}
 use Rattle.tablewords.proofs.first_word.Goals as goal
 
 pub overflow_add-result : goal.overflow_add-result
@@ -22,7 +22,7 @@ returns c =
     }
 
 pub slice_bounds-run-count : goal.slice_bounds-run-count
-slice_bounds-run-count c = omega (arith, leading-fits Blank c.args.line.now)
+slice_bounds-run-count c = omega (arith, leading_fits Blank c.args.line.now)
 
 pub slice_bounds-run-start : goal.slice_bounds-run-start
-slice_bounds-run-start c = omega (arith, leading-fits Blank c.args.line.now)
+slice_bounds-run-start c = omega (arith, leading_fits Blank c.args.line.now)

@@ -31,8 +31,8 @@ module _ (buffer part : List ℕ) (held at i : ℕ) where
   past_part : length part ≤ i → agree (drop at (take held buffer)) (drop i part) ≡ true
   past_part l = rw (drop_of_length-le part l) (agree_nil (drop at (take held buffer)))
 
-  past-held : held ≤ at → agree (drop at (take held buffer)) (drop i part) ≡ true
-  past-held h = rw (drop_of_length-le (take held buffer) {i = at} (simp length-take (omega arith)))
+  past_held : held ≤ at → agree (drop at (take held buffer)) (drop i part) ≡ true
+  past_held h = rw (drop_of_length-le (take held buffer) {i = at} (simp length-take (omega arith)))
 
 pub loop-at-init : goal.loop-at-init
 loop-at-init c = (omega arith, omega arith, refl)
@@ -80,4 +80,4 @@ pub returns : goal.returns
 returns c =
     let l = c.loop-at in
     let a = c.args in
-    sym (l.invariant.2 ∙ past-held a.buffer.now a.part.now a.held l.at l.i c.loop-at-test.false)
+    sym (l.invariant.2 ∙ past_held a.buffer.now a.part.now a.held l.at l.i c.loop-at-test.false)

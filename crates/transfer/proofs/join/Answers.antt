@@ -4,13 +4,13 @@
 use mathlib.Core.Path.{refl, sym, ◌∙◌}
 use native.Mathlib.Omega.{arith}
 use Rattle.checks.proofs.Tests.{tests}
-use Rattle.transfer.proofs.JoinLaws.{refused-at, accepted, inside, beyond}
+use Rattle.transfer.proofs.JoinLaws.{refused_at, accepted, inside, beyond}
 use Rattle.transfer.proofs.join.Goals as goal
 
 pub returns-then-size-held : goal.returns-then-size-held
 returns-then-size-held c =
     let a = c.args in
-    let both = refused-at a.buffer.now a.held a.offset a.part.now 0 refl (omega (arith, tests)) in record {
+    let both = refused_at a.buffer.now a.held a.offset a.part.now 0 refl (omega (arith, tests)) in record {
       value = both.0;
       buffer_after = both.1;
     }
@@ -18,7 +18,7 @@ returns-then-size-held c =
 pub returns-then-held-offset : goal.returns-then-held-offset
 returns-then-held-offset c =
     let a = c.args in
-    let both = refused-at a.buffer.now a.held a.offset a.part.now 1 refl (omega (arith, tests)) in record {
+    let both = refused_at a.buffer.now a.held a.offset a.part.now 1 refl (omega (arith, tests)) in record {
       value = both.0;
       buffer_after = both.1;
     }
@@ -26,7 +26,7 @@ returns-then-held-offset c =
 pub returns-then-size-offset : goal.returns-then-size-offset
 returns-then-size-offset c =
     let a = c.args in
-    let both = refused-at a.buffer.now a.held a.offset a.part.now 2 refl (omega (arith, tests)) in record {
+    let both = refused_at a.buffer.now a.held a.offset a.part.now 2 refl (omega (arith, tests)) in record {
       value = both.0;
       buffer_after = both.1;
     }
@@ -35,7 +35,7 @@ pub returns-then-not-agrees : goal.returns-then-not-agrees
 returns-then-not-agrees c =
     let a = c.args in
     let r = c.agrees in
-    let both = refused-at a.buffer.now a.held a.offset a.part.now 3 refl (
+    let both = refused_at a.buffer.now a.held a.offset a.part.now 3 refl (
       omega (arith, tests),
       (omega (arith, tests), (omega (arith, tests), rw (← r.ensures, c.if-not-agrees.true) tt)),
     ) in record {

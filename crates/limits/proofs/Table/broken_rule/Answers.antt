@@ -28,14 +28,14 @@ routes t = numbered 12 (route_rules t)
 abbrev lasts : Table → List Check
 lasts t = numbered 16 (delay_rules t)
 
-abbrev from-routes : Table → List Check
-from-routes t = routes t ++ lasts t
+abbrev from_routes : Table → List Check
+from_routes t = routes t ++ lasts t
 
-abbrev from-asks : Table → List Check
-from-asks t = asks t ++ from-routes t
+abbrev from_asks : Table → List Check
+from_asks t = asks t ++ from_routes t
 
-abbrev from-devices : Table → List Check
-from-devices t = devices t ++ from-asks t
+abbrev from_devices : Table → List Check
+from_devices t = devices t ++ from_asks t
 
 -- where every rule before it is kept, the answer is rule 16's
 to_the_last :
@@ -45,8 +45,8 @@ to_the_last :
     → last ≡ first (lasts t) → last ≡ broken_rule t
 to_the_last t set e e0 d d0 a a0 r r0 l =
     rw set
-    (found_right (engines t) (from-devices t) tt e e0
-    (found_right (devices t) (from-asks t) tt d d0 (found_right (asks t) (from-routes t) tt a a0 (found_right (routes t) (lasts t) tt r r0 l))))
+    (found_right (engines t) (from_devices t) tt e e0
+    (found_right (devices t) (from_asks t) tt d d0 (found_right (asks t) (from_routes t) tt a a0 (found_right (routes t) (lasts t) tt r r0 l))))
 
 pub returns-then-not-is_set : goal.returns-then-not-is_set
 returns-then-not-is_set c = rw (sym c.is_set.ensures ∙ not-true c.is_set.result c.if-not-is_set.true-raw)
@@ -56,33 +56,33 @@ returns-then-number-ne0 c =
     let t = c.args.self in
     let set = c.is_set in
     rw (sym set.ensures ∙ not-false set.result c.if-not-is_set.false-raw)
-    (found_left (engines t) (from-devices t) c.broken_engine_rule-number.ensures c.if-number-ne0.true)
+    (found_left (engines t) (from_devices t) c.broken_engine_rule-number.ensures c.if-number-ne0.true)
 
 pub returns-then-number-ne0-2 : goal.returns-then-number-ne0-2
 returns-then-number-ne0-2 c =
     let t = c.args.self in
     let set = c.is_set in
     rw (sym set.ensures ∙ not-false set.result c.if-not-is_set.false-raw)
-    (found_right (engines t) (from-devices t) tt c.broken_engine_rule-number.ensures c.if-number-ne0.false
-    (found_left (devices t) (from-asks t) c.broken_device_rule-number.ensures c.if-number-ne0-2.true))
+    (found_right (engines t) (from_devices t) tt c.broken_engine_rule-number.ensures c.if-number-ne0.false
+    (found_left (devices t) (from_asks t) c.broken_device_rule-number.ensures c.if-number-ne0-2.true))
 
 pub returns-then-number-ne0-3 : goal.returns-then-number-ne0-3
 returns-then-number-ne0-3 c =
     let t = c.args.self in
     let set = c.is_set in
     rw (sym set.ensures ∙ not-false set.result c.if-not-is_set.false-raw)
-    (found_right (engines t) (from-devices t) tt c.broken_engine_rule-number.ensures c.if-number-ne0.false
-    (found_right (devices t) (from-asks t) tt c.broken_device_rule-number.ensures c.if-number-ne0-2.false
-    (found_left (asks t) (from-routes t) c.broken_ask_rule-number.ensures c.if-number-ne0-3.true)))
+    (found_right (engines t) (from_devices t) tt c.broken_engine_rule-number.ensures c.if-number-ne0.false
+    (found_right (devices t) (from_asks t) tt c.broken_device_rule-number.ensures c.if-number-ne0-2.false
+    (found_left (asks t) (from_routes t) c.broken_ask_rule-number.ensures c.if-number-ne0-3.true)))
 
 pub returns-then-number-ne0-4 : goal.returns-then-number-ne0-4
 returns-then-number-ne0-4 c =
     let t = c.args.self in
     let set = c.is_set in
     rw (sym set.ensures ∙ not-false set.result c.if-not-is_set.false-raw)
-    (found_right (engines t) (from-devices t) tt c.broken_engine_rule-number.ensures c.if-number-ne0.false
-    (found_right (devices t) (from-asks t) tt c.broken_device_rule-number.ensures c.if-number-ne0-2.false
-    (found_right (asks t) (from-routes t) tt c.broken_ask_rule-number.ensures c.if-number-ne0-3.false
+    (found_right (engines t) (from_devices t) tt c.broken_engine_rule-number.ensures c.if-number-ne0.false
+    (found_right (devices t) (from_asks t) tt c.broken_device_rule-number.ensures c.if-number-ne0-2.false
+    (found_right (asks t) (from_routes t) tt c.broken_ask_rule-number.ensures c.if-number-ne0-3.false
     (found_left (routes t) (lasts t) c.broken_route_rule-number.ensures c.if-number-ne0-4.true))))
 
 pub returns-then-is_undelayed : goal.returns-then-is_undelayed

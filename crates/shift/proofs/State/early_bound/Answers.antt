@@ -1,6 +1,6 @@
 -- `State::early_bound` meets its contract: each arm by its step, and every other step is never too early.
 -- Assumes nothing.
-use Rattle.shift.proofs.AnswerLaws.{never-early}
+use Rattle.shift.proofs.AnswerLaws.{never_early}
 use borrow.Enum.Refused.{opened}
 use Rattle.shift.proofs.State.early_bound.Goals as goal
 
@@ -34,4 +34,4 @@ returns-in-AskClutch c =
 pub returns-in_default : goal.returns-in_default
 returns-in_default c =
     let a = c.args in
-    never-early a.table a.self a.x (opened c.in_default.in_default-own.keys4)
+    never_early a.table a.self a.x (opened c.in_default.in_default-own.keys4)

@@ -2,7 +2,7 @@
 -- Assumes nothing.
 use Rattle.std.proofs.Common.{◌+◌, ◌*◌, cond, leb, length, sym, ap, ◌∙◌, arith, le-leb}
 use Rattle.shiftlist.specs.Walks.{coded_in, laid_by}
-use Rattle.shiftlist.proofs.LayLaws.{at_most_one, laid-at-most, codes_long}
+use Rattle.shiftlist.proofs.LayLaws.{at_most_one, laid_at_most, codes_long}
 use Rattle.shiftlist.proofs.lay.has_room.Goals as goal
 
 pub overflow_add-open : goal.overflow_add-open
@@ -20,7 +20,7 @@ returns-then-from-open c =
     let cs = coded_in a.records.now in
     let o = c.one_if-open.ensures ∙ ap (λ b. cond b 1 0) c.is_unfinished.ensures in
     sym (le-leb (a.from + 16 * length (laid_by a.walk a.index cs)) a.len
-    (omega (arith, o, laid-at-most a.walk a.index cs, codes_long a.records.now, c.if-from-open.true)))
+    (omega (arith, o, laid_at_most a.walk a.index cs, codes_long a.records.now, c.if-from-open.true)))
 
 pub returns : goal.returns
 returns c =

@@ -7,7 +7,7 @@ use Rattle.numbers.specs.Bytes.{bytes_of, halves}
 use Rattle.shiftlist.specs.Lists.{entries_of, header_of}
 use Rattle.shiftlist.specs.Walks.{coded_in, laid_by, size_with}
 use Rattle.shiftlist.proofs.StoreLaws.{apart}
-use Rattle.shiftlist.proofs.LayLaws.{at_most_one, laid-at-most, codes_long}
+use Rattle.shiftlist.proofs.LayLaws.{at_most_one, laid_at_most, codes_long}
 use Rattle.shiftlist.proofs.LaidLaws.{too_many, no_place, in_place, no_room, all_laid, header_stored}
 use Rattle.phases.specs.Phases.{unfinished}
 use Rattle.shiftlist.proofs.lay.lay.Goals as goal
@@ -67,7 +67,7 @@ overflow_cast-size c =
       arith,
       c.lay_entries-size.ensures.value,
       in_place a.from c.if-from.false,
-      laid-at-most a.walk a.index cs,
+      laid_at_most a.walk a.index cs,
       at_most_one (unfinished a.walk.phase),
       codes_long a.records.now,
       c.if-index-records-gt16372.false,

@@ -8,7 +8,7 @@ use Rattle.shiftlist.specs.declared.walk.Walk.{Walk}
 use Rattle.shiftlist.specs.Lists.{numbers_of}
 use Rattle.shiftlist.specs.Walks.{coded_in, clock_by, holding, in_hand, closes, with, laid_by, last_before}
 use Rattle.shiftlist.proofs.StoreLaws.{one_at_most}
-use Rattle.shiftlist.proofs.LayLaws.{rest_of, code, amount, made, tick_made, still_made, takes_made, other_is, last_goes, stepped-holds, next_last, Left, one_laid, at-end}
+use Rattle.shiftlist.proofs.LayLaws.{rest_of, code, amount, made, tick_made, still_made, takes_made, other_is, last_goes, stepped_holds, next_last, Left, one_laid, at_end}
 use Rattle.shiftlist.proofs.lay.lay_entries.Goals as goal
 
 pub loop-i-init : goal.loop-i-init
@@ -123,7 +123,7 @@ loop-i-preserved c =
     let stepped = v.ensures ∙ last_goes l.clock l.phase l.first n before l.kind l.route l.time n there in
     let next = holding l.clock u.phase u.first (last_before a.walk.last a.index (l.i + 1)) u.kind u.route u.request_time in
     let holds : u ≡ next =
-    sym (stepped-holds w n there u stepped)
+    sym (stepped_holds w n there u stepped)
     ∙ ap (λ q. holding l.clock u.phase u.first q u.kind u.route u.request_time) (sym (next_last a.walk.last a.index l.i))
     in
     let ended = closes l.phase u.phase in
@@ -166,7 +166,7 @@ returns-then-is_unfinished c =
     let whole = laid_by a.walk a.index (coded_in records) in
     let u = sym c.is_unfinished.ensures ∙ c.if-is_unfinished.true in
     let all : l.i ≡ length records / 4 = omega (arith, l.invariant.0, c.loop-i-test.false) in
-    let end = at-end records l.i w (a.index + l.i) (omega (arith, l.invariant.2, all)) ∙ ap (λ b. with b (in_hand w) []) u in
+    let end = at_end records l.i w (a.index + l.i) (omega (arith, l.invariant.2, all)) ∙ ap (λ b. with b (in_hand w) []) u in
     let h = subst (Left a.list.now a.from whole l.list l.p) end l.invariant.5 in
     let last = c.last_before.ensures ∙ ap (last_before a.walk.last a.index) (sym all) in
     let entry : c.entry.result ≡ in_hand w =
@@ -184,7 +184,7 @@ returns c =
     let w = holding l.clock l.phase l.first (last_before a.walk.last a.index l.i) l.kind l.route l.time in
     let whole = laid_by a.walk a.index (coded_in records) in
     let u = sym c.is_unfinished.ensures ∙ c.if-is_unfinished.false in
-    let end = at-end records l.i w (a.index + l.i) (omega (arith, l.invariant.0, l.invariant.2, c.loop-i-test.false)) ∙ ap (λ b. with b (in_hand w) []) u in
+    let end = at_end records l.i w (a.index + l.i) (omega (arith, l.invariant.0, l.invariant.2, c.loop-i-test.false)) ∙ ap (λ b. with b (in_hand w) []) u in
     let h = subst (Left a.list.now a.from whole l.list l.p) end l.invariant.5 in record {
       value = omega (arith, h.0);
       list_after = sym h.1;

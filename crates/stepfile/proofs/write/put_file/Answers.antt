@@ -9,7 +9,7 @@ use Rattle.limits.specs.Limits.{entries}
 use Rattle.numbers.specs.Bytes.{bytes_of}
 use Rattle.stepfile.specs.Writing.{records_of}
 use Rattle.stepfile.proofs.EntryLaws.{no_more_than_22}
-use Rattle.stepfile.proofs.StoreLaws.{file-stored}
+use Rattle.stepfile.proofs.StoreLaws.{file_stored}
 use Rattle.stepfile.proofs.write.put_file.Goals as goal
 
 pub overflow_mul-entries : goal.overflow_mul-entries
@@ -36,7 +36,7 @@ returns c =
     c.put_records.ensures
     ∙ ap (λ o. sets o (12 + 2 * k.result) r) c.put_table.ensures
     ∙ ap (λ o. sets (sets o 12 es) (12 + 2 * k.result) r) c.put_header.ensures
-    ∙ file-stored a.out.now a.table a.codes.now a.amounts.now k.result k.ensures
+    ∙ file_stored a.out.now a.table a.codes.now a.amounts.now k.result k.ensures
 
 pub overflow_cast-entries : goal.overflow_cast-entries
 overflow_cast-entries c = omega (arith, no_more_than_22 c.args.table)

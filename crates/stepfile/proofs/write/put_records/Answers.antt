@@ -8,7 +8,7 @@ use lib.ListN.{get_or, drop}
 use lib.Seq.{sets}
 use Rattle.numbers.specs.Bytes.{bytes_of}
 use Rattle.stepfile.specs.Writing.{records_of}
-use Rattle.stepfile.proofs.StoreLaws.{record_stored, records-stored}
+use Rattle.stepfile.proofs.StoreLaws.{record_stored, records_stored}
 use Rattle.stepfile.proofs.write.put_records.Goals as goal
 
 pub loop-i-init : goal.loop-i-init
@@ -36,7 +36,7 @@ pub returns : goal.returns
 returns c =
     let l = c.loop-i in
     let a = c.args in
-    sym (l.invariant.3 ∙ records-stored l.out a.codes.now a.amounts.now l.p l.i c.loop-i-test.false)
+    sym (l.invariant.3 ∙ records_stored l.out a.codes.now a.amounts.now l.p l.i c.loop-i-test.false)
 
 pub overflow_cast-codes : goal.overflow_cast-codes
 overflow_cast-codes c = omega (arith, c.shared_slice_known-in-loop-i-1.given c.loop-i.i)

@@ -7,7 +7,7 @@ use lib.ListN.{take, drop}
 use lib.Seq.{sets}
 use borrow.Author.Rules.{rules}
 use Rattle.numbers.specs.Bytes.{bytes_of}
-use Rattle.stepfile.proofs.StoreLaws.{entry-stored, entries-stored}
+use Rattle.stepfile.proofs.StoreLaws.{entry_stored, entries_stored}
 use Rattle.stepfile.proofs.write.put_table.Goals as goal
 
 pub loop-i-init : goal.loop-i-init
@@ -23,7 +23,7 @@ loop-i-preserved c =
       l.invariant.1,
       omega (arith, put.auto.out, l.invariant.2),
       l.invariant.3
-          ∙ entry-stored l.out es count l.i (omega arith) (omega arith)
+          ∙ entry_stored l.out es count l.i (omega arith) (omega arith)
           ∙ ap (λ o. sets o (12 + 2 * (l.i + 1)) (bytes_of (drop (l.i + 1) (take count es)))) (sym put.ensures),
     )
 
@@ -34,4 +34,4 @@ returns c =
     let a = c.args in
     sym (ap (λ es. sets a.out.now 12 (bytes_of (take a.count es))) (sym entries.ensures)
     ∙ l.invariant.3
-    ∙ entries-stored l.out entries.result a.count l.i (omega arith) (omega arith))
+    ∙ entries_stored l.out entries.result a.count l.i (omega arith) (omega arith))

@@ -12,15 +12,15 @@ use Rattle.stepfile.specs.Files.{most_records}
 use Rattle.stepfile.specs.Writing.{entries_for, file_of, size_of, writable, refused_with}
 use Rattle.stepfile.proofs.EntryLaws.{no_more_than_22, most_between}
 use Rattle.stepfile.proofs.WritingLaws.{size}
-use Rattle.numbers.proofs.StoreLaws.{at-start}
-use Rattle.stepfile.proofs.WriteLaws.{at-lists, at_record, at_room, written, amounts_small}
+use Rattle.numbers.proofs.StoreLaws.{at_start}
+use Rattle.stepfile.proofs.WriteLaws.{at_lists, at_record, at_room, written, amounts_small}
 use Rattle.stepfile.proofs.write.write_with.Goals as goal
 
 pub returns-then-count-amounts : goal.returns-then-count-amounts
 returns-then-count-amounts c =
     let a = c.args in
     let n = refused (writable a.table a.codes.now a.amounts.now) 0 (omega (arith, tests)) in
-    let k = at-lists a.table a.codes.now a.amounts.now a.out.now 3 n (λ q. omega arith) in record {
+    let k = at_lists a.table a.codes.now a.amounts.now a.out.now 3 n (λ q. omega arith) in record {
       value = c.refuse.ensures ∙ k.0;
       out_after = k.1;
     }
@@ -30,7 +30,7 @@ returns-then-most_records-count c =
     let a = c.args in
     let m = c.most_records.ensures ∙ ap most_records c.entries_for-entries.ensures in
     let n = refused (writable a.table a.codes.now a.amounts.now) 1 (omega (arith, tests)) in
-    let k = at-lists a.table a.codes.now a.amounts.now a.out.now 2 n (λ q. omega arith) in record {
+    let k = at_lists a.table a.codes.now a.amounts.now a.out.now 2 n (λ q. omega arith) in record {
       value = c.refuse-then-most_records-count.ensures ∙ k.0;
       out_after = k.1;
     }
@@ -42,7 +42,7 @@ returns-then-rule-ne0 c =
     let r = c.broken_rule-rule.ensures in
     let n = refused (writable a.table a.codes.now a.amounts.now) 2
     (omega (arith, tests), (omega (arith, tests), ne→neqb (broken_rule a.table) 0 (λ z. c.if-rule-ne0.true (r ∙ z)))) in
-    let k = at-lists a.table a.codes.now a.amounts.now a.out.now 4 n (λ q. omega arith) in record {
+    let k = at_lists a.table a.codes.now a.amounts.now a.out.now 4 n (λ q. omega arith) in record {
       value = c.refuse-then-rule-ne0.ensures ∙ ap (λ x. refused_with 4 x 0) r ∙ k.0;
       out_after = k.1;
     }
@@ -96,7 +96,7 @@ returns c =
     let file = file_of a.table a.codes.now a.amounts.now in
     let long = size (entries_for a.table) a.codes.now a.amounts.now (omega arith) in record {
       value = ap (λ m. record { number = 0; rule = 0; index = 0; length = m }) (omega arith) ∙ k.0;
-      out_after = c.put_file.ensures ∙ at-start a.out.now file (size_of a.table a.codes.now) long room ∙ k.1;
+      out_after = c.put_file.ensures ∙ at_start a.out.now file (size_of a.table a.codes.now) long room ∙ k.1;
     }
 
 -- the size, of few entries and few records

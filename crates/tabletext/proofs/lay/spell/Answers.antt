@@ -7,7 +7,7 @@ use lib.ListN.{length, take, get_or}
 use lib.Seq.{length-take-le, get_or-take}
 use Rattle.stepfile.specs.Writing.{entries_for}
 use Rattle.tabletext.specs.Printed.{lines_from, text_of}
-use Rattle.stepfile.proofs.EntryLaws.{entries-taken, no_more_than_22}
+use Rattle.stepfile.proofs.EntryLaws.{entries_taken, no_more_than_22}
 use Rattle.tabletext.proofs.PrintLaws.{one_line, no_more_lines}
 use Rattle.tabletext.proofs.lay.spell.Goals as goal
 
@@ -41,7 +41,7 @@ returns c =
     let count = c.entries_for-count in
     let es = c.entries-entries in
     let vs = take count.result es.result in
-    let first : vs ≡ entries_for t = rw (count.ensures, es.ensures) (entries-taken t) in
+    let first : vs ≡ entries_for t = rw (count.ensures, es.ensures) (entries_taken t) in
     let all : length vs ≡ count.result = length-take-le count.result es.result (rw es.ensures l.invariant.1) in
     let fits : l.at ≤ length l.space = omega (arith, l.invariant.1, l.invariant.2, l.invariant.3) in record {
       prefix_len = (fits, sym (length-take-le l.at l.space fits));

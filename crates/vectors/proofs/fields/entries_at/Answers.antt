@@ -6,7 +6,7 @@ use native.Mathlib.Omega.{arith}
 use lib.ListN.{length-set}
 use Rattle.numbers.specs.Bytes.{u16_at}
 use Rattle.vectors.proofs.ReadLaws.{no_u16s}
-use Rattle.vectors.proofs.Storing.{stored, all-stored}
+use Rattle.vectors.proofs.Storing.{stored, all_stored}
 use Rattle.vectors.proofs.fields.entries_at.Goals as goal
 
 pub loop-i-preserved : goal.loop-i-preserved
@@ -26,7 +26,7 @@ pub returns : goal.returns
 returns c =
     let l = c.loop-i in
     let bytes = c.args.bytes.now in
-    sym (l.invariant.3 ∙ all-stored (u16_at bytes) 2 l.from 22 l.i l.entries c.loop-i-test.false)
+    sym (l.invariant.3 ∙ all_stored (u16_at bytes) 2 l.from 22 l.i l.entries c.loop-i-test.false)
 
 pub loop-i-init : goal.loop-i-init
 loop-i-init c = (omega arith, omega arith, refl, refl)

@@ -7,7 +7,7 @@ use native.Mathlib.Omega.{arith}
 use lib.ListN.{length, length-set}
 use lib.Seq.{length-take-le}
 use Rattle.numbers.specs.Bytes.{u32_at}
-use Rattle.vectors.proofs.Storing.{stored, all-stored}
+use Rattle.vectors.proofs.Storing.{stored, all_stored}
 use Rattle.vectors.proofs.fields.read_amounts.Goals as goal
 
 pub loop-from-preserved : goal.loop-from-preserved
@@ -31,7 +31,7 @@ returns c =
     let fits : l.count ≤ length l.amounts = omega arith in record {
       prefix_len = (fits, sym (length-take-le l.count l.amounts fits));
       value = all;
-      amounts_after = rw all (sym (l.invariant.3 ∙ all-stored (u32_at bytes) 4 l.from n l.count l.amounts (omega arith)));
+      amounts_after = rw all (sym (l.invariant.3 ∙ all_stored (u32_at bytes) 4 l.from n l.count l.amounts (omega arith)));
     }
 
 pub loop-from-init : goal.loop-from-init
