@@ -18,7 +18,7 @@ fn main(rt: HostRuntime) -> ExitCode {
     }
 }
 
-// How the last writing ended.
+// Writes the step file of a table, nothing where it is not admitted, and answers how the last writing ended.
 fn write(out: Stdout, err: Stderr, table: Table) -> Sent {
     let amounts = [0u32; 1];
     // A header of 12 bytes, and 2 for each of 22 entries.

@@ -25,7 +25,7 @@ fn main(rt: HostRuntime) -> ExitCode {
     }
 }
 
-// How the last writing ended.
+// Compares with the older table, where there is one, and answers how the last writing ended.
 fn from_old<R: Files>(files: &R, out: Stdout, err: Stderr, new: Table) -> Sent {
     let old = desk::read_file(files, OLD, out);
     match old {

@@ -16,7 +16,7 @@ fn main(rt: HostRuntime) -> ExitCode {
     }
 }
 
-// How the last writing ended.
+// Prints the text of a table, and answers how the last writing ended.
 fn print(out: Stdout, err: Stderr, table: Table) -> Sent {
     // As long as the longest text of a table, and longer.
     let mut text = [0u8; 1024];

@@ -24,7 +24,7 @@ pub fn read<R: Read>(reader: &mut R, out: Stdout) -> Given {
     let mut bytes = [0u8; 65537];
     let input = input::read_all(reader, &mut bytes);
     if input.failed {
-        return unread(out);
+        return unreadable(out);
     }
     let length = input.length;
     given_by(out, &bytes[..length])
@@ -35,11 +35,11 @@ pub fn read_file<R: Files>(files: &R, name: &str, out: Stdout) -> Given {
     let opened = fs::open(files, name);
     match opened {
         Ok(mut file) => read(&mut file, out),
-        Err(_) => unread(out),
+        Err(_) => unreadable(out),
     }
 }
 
-fn unread(out: Stdout) -> Given {
+fn unreadable(out: Stdout) -> Given {
     nothing(out, b"it can not be read")
 }
 

@@ -20,7 +20,7 @@ fn main(rt: HostRuntime) -> ExitCode {
     list(rt.stdout(), rt.stderr(), &file[..length]).status()
 }
 
-// How the last writing ended.
+// Writes the list of a file, or the line of one that is refused, and answers how the last writing ended.
 fn list(out: Stdout, mut err: Stderr, file: &[u8]) -> Sent {
     // As long as the longest list: a header of 8 bytes, and 16 for each of 16,372 records.
     let mut list = [0u8; 261960];
