@@ -444,6 +444,14 @@ CODE_ACTIONS = (
 )
 
 
+# What an event's function ends in, by whether it has a guard with a number, and one on a time.
+ENDS = {
+    (False, False): "Event::free(enabled, v)",
+    (True, False): "Event { number, ..Event::free(enabled, v) }",
+    (True, True): "Event { enabled, number, excess, after: v, }",
+}
+
+
 def functions_in(text):
     """The functions in a file of code, each with its body."""
     return re.findall(r"^(?:pub )?fn (\w+)\(.*?\n\{\n(.*?)^\}", text, re.DOTALL | re.MULTILINE)
@@ -464,68 +472,74 @@ def code_event(name, body):
     numbered = any(f"else {number}" in said for label, said in found for number in (WRONG_BOX, TOO_EARLY, TOO_LATE))
     timed = "let excess " in body
     rest = plain(body.rsplit("//", 1)[1].split("\n", 1)[1])
-    if rest != f"Event {{ enabled, number{'' if numbered else ': 0'}, excess{'' if timed else ': 0'}, after: v, }}":
+    if rest != ENDS[numbered, timed]:
         raise Unread(f"{name}: can't be read to its end: {rest}")
     return clauses(name, found)
 
 
-def code_reset(name, body):
-    """The facts of RESET's function, which has no labels."""
-    found = re.fullmatch(r"let enabled = ([^;]*); ((?:v\.\w+ = false; )*)"
-                         r"Event { enabled, number: 0, excess: 0, after: v, }", plain(body))
-    flags, number = matched(CODE_GUARDS, found.group(1))
-    lowered = re.findall(r"v\.(\w+) = false;", found.group(2))
-    return clauses(name, [("grd1", guarded(flags, number, "")), *lowering(lowered)])
+def code_reset(body, erred):
+    """The facts of RESET's function, which has no labels; what it does not lower it hands on."""
+    kept = re.fullmatch(r"let after = Variables { ((?:\w+: v\.\w+, )*)\.\.Variables::default\(\) };"
+                        r" Event::free\(v\.erred\(\), after\)", plain(body)).group(1)
+    handed_on = [name for name, value in re.findall(r"(\w+): v\.(\w+),", kept) if name == value]
+    if not {"isNeu", *NATURALS} <= set(handed_on) or len(handed_on) != kept.count(","):
+        raise Unread("RESET: what it hands on can't be read")
+    flags, number = matched(CODE_GUARDS, plain(erred).replace("self.", "v."))
+    lowered = [name for name in BOOLS if name not in handed_on]
+    return clauses("RESET", [("grd1", guarded(flags, number, "")), *lowering(lowered)])
 
 
-# A guard of Tick_Tock in code: the comment before it, its label, what was found before it, the flag that is up and those that are
-# down, its time and its limit.
-UNTIL = (r"(?://([^\n]*)\n\s*)?let (grd\d+) = "
-         r"until\w*\(\s*(\w+),\s*v\.(\w+),\s*((?:v\.\w+,\s*)+)now,\s*v\.(\w+),\s*table\.(\w+),?\s*\);")
-# What Tick_Tock asks for, and the number that it answers where that is not 0, with it as the excess.
-ANSWERED = (r"let (\w+) = ([\w:]+)\(([^()]*)\); if \1 != 0 "
-            r"{ return Moved { number: (\d+), rule: 0, excess: \1, variables: v, }; }")
+# A guard of Tick_Tock in code: its flags, its label and what is settled of it, its time and its limit.
+GUARD = r"Guard \{\s*flags: (.*?),\s*//([^\n]*)\n\s*since: v\.(\w+),\s*limit: table\.(\w+),\s*\},\n"
+# The answers of Tick_Tock in order: the clock's end with its number, and the numbers of the limits.
+ANSWERED = (r"let now = v\.time as u64 \+ \(tick as u64\); let Some\(time\) = v\.time\.checked_add\(tick\) else "
+            r"{ return Moved::refused\((\d+), times::beyond\(now, (\d+)\), v\); }; "
+            r"if let Some\(over\) = stage_limits\(v, table, now\) { return Moved::refused\((\d+), over, v\); } "
+            r"if let Some\(over\) = phase_limits\(v, table, now\) { return Moved::refused\((\d+), over, v\); } "
+            r"Moved::accepted\(Variables { time, \.\.v }\) // (act\d+)")
 
 
 def code_ticks(text):
     """The facts of Tick_Tock's functions."""
     bodies = dict(functions_in(text))
-    answered = [(asked, values, number) for _, asked, values, number in re.findall(ANSWERED, plain(bodies["Tick_Tock"]))]
-    if [asked for asked, _, _ in answered] != ["times::beyond", "stage_limits", "phase_limits"]:
+    answered = re.fullmatch(ANSWERED, plain(bodies["Tick_Tock"]))
+    if not answered:
         raise Unread("Tick_Tock: what it asks for can't be read")
-    numbers = {asked: number for asked, values, number in answered if values == "v, table, now"}
+    number, last, stages, phases, act = answered.groups()
     found = []
-    for limits in ("phase_limits", "stage_limits"):
-        asked = re.findall(UNTIL, bodies[limits])
-        for comment, label, _, up, down, time, limit in asked:
-            mark = mark_in(plain(comment)) if label_in(plain(comment)) == label else ""
-            formula = deadline([up], re.findall(r"v\.(\w+)", down), time, entry_of(limit))
-            found.append((label, guarded(formula, numbers.get(limits, "no number"), mark)))
-        labels = [label for _, label, *_ in asked]
-        handed_on = [before for _, _, before, *_ in asked] + [plain(bodies[limits]).rsplit("; ", 1)[1]]
-        if handed_on != ["0", *labels]:
+    for limits, refusal in (("phase_limits", phases), ("stage_limits", stages)):
+        for flags, comment, time, limit in re.findall(GUARD, bodies[limits], re.DOTALL):
+            up, down = conjunction(plain(flags), r"!v\.(\w+)", r"v\.")
+            formula = deadline(up, down, time, entry_of(limit))
+            found.append((label_in(plain(comment)), guarded(formula, refusal, mark_in(plain(comment)))))
+        left = plain(re.sub(r"//[^\n]*\n", "", re.sub(GUARD, "", bodies[limits], flags=re.DOTALL)))
+        if left != "let guards = [ ]; first_past(&guards, now)":
             raise Unread(f"{limits}: its guards are not all asked")
-    acts = re.findall(r"after\.(\w+) = v\.time \+ tick; // (act\d+)", bodies["Tick_Tock"])
-    found += [(label, f"{time} := time + tick") for time, label in acts]
+    found.append((act, "time := time + tick"))
     yield from clauses("Tick_Tock", found)
-    _, values, number = answered[0]
-    yield "Tick_Tock: the clock's end", f"{values.replace('now, ', '')}, else {number}"
+    yield "Tick_Tock: the clock's end", f"{last}, else {number}"
+
+
+# What a variable is by Default.
+DEFAULTS = {"bool": "false", "u32": "0"}
 
 
 def code_facts(texts):
     """The facts of the code."""
+    erred = re.search(r"    pub fn erred\(&self\).*?\n    \{\n(.*?)\n    \}", texts[STRUCT], re.DOTALL).group(1)
     for crate, file in EVENT_CODE.items():
         functions = functions_in(texts[file])
         yield f"the events of {crate} in order", " ".join(name for name, _ in functions)
         for name, body in functions:
-            yield from (code_reset if name == "RESET" else code_event)(name, body)
+            yield from code_reset(body, erred) if name == "RESET" else code_event(name, body)
     yield from code_ticks(texts[TICK_CODE])
-    struct = re.search(r"pub struct Variables \{\n(.*?)\n\}", texts[STRUCT], re.DOTALL).group(1)
+    struct = re.search(r"#\[derive\(Clone, Copy, Default\)\]\npub struct Variables \{\n(.*?)\n\}", texts[STRUCT], re.DOTALL).group(1)
     fields = re.findall(r"pub (\w+): (\w+),", struct)
     yield "the variables in order", " ".join(f"{name}: {kind}" for name, kind in fields)
-    start = re.search(r"pub fn initialisation\(\).*?Variables \{\n(.*?)\n        \}", texts[STRUCT], re.DOTALL).group(1)
-    for name, value in re.findall(r"(\w+): (\w+),", start):
-        yield f"initialisation of {name}", value
+    start = re.search(r"pub fn initialisation\(\).*?Variables \{\n(.*?)\.\.Variables::default\(\)\n", texts[STRUCT], re.DOTALL)
+    given = dict(re.findall(r"(\w+): (\w+),", start.group(1)))
+    for name, kind in fields:
+        yield f"initialisation of {name}", given.get(name, DEFAULTS[kind])
 
 
 def differences(wanted, found):

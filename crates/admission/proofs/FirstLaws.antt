@@ -3,11 +3,13 @@
 use mathlib.Core.Path.{◌≡◌, subst}
 use mathlib.Core.Logic.{⊎_elim}
 use mathlib.Core.Bool.{Bool, true, false, not, cond}
-use Prim.Native.Nat.{ℕ, zero, suc, ◌+◌, ◌-◌, ◌≤◌, ◌<◌}
+use Prim.Native.Nat.{ℕ, zero, suc, ◌+◌, ◌≤◌, ◌<◌}
 use native.Mathlib.Nat.{eq-or-lt_of_le}
-use native.Mathlib.Numerals.{add-one}
 use native.Mathlib.Omega.{arith}
 use lib.Dec.{T}
+use Rattle.std.specs.Prelude.{unwrap_or}
+use Rattle.std.specs.List.{find, range_with_len}
+use Rattle.checks.proofs.Tests.{case}
 use Rattle.admission.specs.FirstTighter.{first_from}
 
 -- a choice has what both of its sides have
@@ -38,12 +40,12 @@ module _ (test : ℕ → Bool) where
       (λ no b. ⊎_elim (λ e. subst (λ (j : ℕ). T (not (test j))) e no) (λ m. fails_before (suc i) n k m b) (eq-or-lt_of_le l))
       h
 
-  -- a turn of a loop: the number passes, it does not, and there is none left
-  pub found : (m i : ℕ) → i < m → test i ≡ true → first_from test i (m - i) ≡ i
-  found m i h e = let d : m - i ≡ suc (m - (i + 1)) = omega arith in rw (d, e)
-
-  pub next : (m i : ℕ) → i < m → test i ≡ false → first_from test i (m - i) ≡ first_from test (i + 1) (m - (i + 1))
-  next m i h e = let d : m - i ≡ suc (m - (i + 1)) = omega arith in rw (d, e, add-one i)
-
-  pub none_left : (m i : ℕ) → i ≤ m → m ≤ i → first_from test i (m - i) ≡ m
-  none_left m i l h = let d : m - i ≡ 0 = omega arith in rw d (omega arith)
+  -- what looking for it finds
+  pub found : (i n : ℕ) → unwrap_or (find test (range_with_len i n)) (i + n) ≡ first_from test i n
+  found i zero = omega arith
+  found i (suc n) =
+      let end : i + suc n ≡ suc i + n = omega arith in
+      let one : i + 1 ≡ suc i = omega arith in
+      case (test i)
+      (λ t. rw t)
+      (λ t. rw (t, end, one) (found (suc i) n))

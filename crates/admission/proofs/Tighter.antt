@@ -18,7 +18,7 @@ use Rattle.limits.specs.Limits.{entry}
 use Rattle.limits.specs.Tighter.{NowhereTighter}
 use Rattle.limits.specs.contracts.Table.broken_rule as broken_rule_call
 use Rattle.limits.proofs.Table.broken_rule.Reads as broken_rule_reads
-use Rattle.shift.specs.declared.Reading.{Reading}
+use Rattle.shift.specs.Readings.{Reading}
 use Rattle.shift.specs.States.{start}
 use Rattle.shift.specs.Runs.{run}
 use Rattle.promises.proofs.Promises.{accepted_by_a_looser_table}

@@ -3,10 +3,10 @@
 #![tactic(auto)]
 
 use columns::Page;
-use desk::Given;
 use limits::Table;
-use output::Sent;
-use std::io::{Stderr, Stdout};
+use output::Unwritten;
+use rules::Report;
+use std::io::{Stdout, Write};
 use std::process::ExitCode;
 
 mod rules;
@@ -21,66 +21,52 @@ const SUM: u8 = 7;
 const LEFT: u8 = 20;
 
 fn main(rt: HostRuntime) -> ExitCode {
-    let given = desk::read(&mut rt.stdin(), rt.stdout());
-    match given {
-        Given::One(table) => tell(rt.stderr(), report(rt.stdout(), table)).status(),
-        Given::Nothing => ExitCode::SUCCESS,
-        Given::Unread => Sent::Unread.status(),
-    }
-}
-
-// Where nobody reads on there is nobody to tell. It answers how the last writing ended.
-fn tell(err: Stderr, sent: Sent) -> Sent {
-    match sent {
-        Sent::Part => Sent::of(err.write_all(b"admit: the report could not be written\n")),
-        _ => sent,
-    }
+    let written = match desk::read(&mut rt.stdin()) {
+        Ok(table) => output::tell(
+            &mut rt.stderr(),
+            report(rt.stdout(), table),
+            b"admit: the report could not be written\n",
+        ),
+        Err(why) => why.say(rt.stdout()),
+    };
+    output::status(written)
 }
 
 // Prints the report of a table, and answers how writing it ended.
-fn report(out: Stdout, table: Table) -> Sent {
-    let mut text = [0u8; 4096];
-    let page = admitted(&mut text, Page::blank(out), table);
-    let page = routes(&mut text, page, table);
-    page.close(&mut text)
-}
-
-fn admitted(text: &mut [u8; 4096], page: Page, table: Table) -> Page {
-    if table.broken_rule() == 0 {
-        return page.words(text, b"admitted").end(text);
+fn report(out: Stdout, table: Table) -> Result<(), Unwritten> {
+    let mut page = Page::blank(out);
+    if table.admit().is_ok() {
+        page.words(b"admitted");
+        page.end();
+    } else {
+        Report::of(&mut page, table).broken();
     }
-    rules::broken(text, page, table)
+    routes(&mut page, table);
+    page.close()
 }
 
-fn routes(text: &mut [u8; 4096], page: Page, table: Table) -> Page {
+fn routes<W: Write>(page: &mut Page<W>, table: Table) {
     let sums = admission::sums(table);
     let change = table.change_dl;
-    let page = head(text, page);
-    let page = route(text, page, b"F", b"from neutral", sums.f, change);
-    let page = route(text, page, b"N", b"to neutral", sums.n, change);
-    let page = route(text, page, b"G1", b"gear to gear", sums.g1, change);
-    route(text, page, b"G2", b"gear to gear", sums.g2, change)
+    head(page);
+    route(page, b"F", b"from neutral", sums.f, change);
+    route(page, b"N", b"to neutral", sums.n, change);
+    route(page, b"G1", b"gear to gear", sums.g1, change);
+    route(page, b"G2", b"gear to gear", sums.g2, change);
 }
 
-fn head(text: &mut [u8; 4096], page: Page) -> Page {
-    let page = page.left(text, b"route", ROUTE);
-    let page = page.left(text, b"kind", KIND);
-    let page = page.right(text, b"sum, ms", SUM);
-    let page = page.right(text, b"left of ChangeDL, ms", LEFT);
-    page.end(text)
+fn head<W: Write>(page: &mut Page<W>) {
+    page.left(b"route", ROUTE);
+    page.left(b"kind", KIND);
+    page.right(b"sum, ms", SUM);
+    page.right(b"left of ChangeDL, ms", LEFT);
+    page.end();
 }
 
-fn route(
-    text: &mut [u8; 4096],
-    page: Page,
-    name: &[u8],
-    kind: &[u8],
-    sum: u32,
-    change: u16,
-) -> Page {
-    let page = page.left(text, name, ROUTE);
-    let page = page.left(text, kind, KIND);
-    let page = page.number(text, sum as u64, SUM);
-    let page = page.difference(text, change as u64, sum as u64, LEFT);
-    page.end(text)
+fn route<W: Write>(page: &mut Page<W>, name: &[u8], kind: &[u8], sum: u32, change: u16) {
+    page.left(name, ROUTE);
+    page.left(kind, KIND);
+    page.number(sum, SUM);
+    page.number(i64::from(change) - i64::from(sum), LEFT);
+    page.end();
 }

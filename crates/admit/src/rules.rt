@@ -2,201 +2,160 @@
 use admission::{is_strict, left_side, right_entry};
 use columns::Page;
 use limits::{Table, entry_at};
+use std::io::Write;
+use tablewords::names::name;
 
-// All of them, rule by rule.
-pub(crate) fn broken(text: &mut [u8; 4096], page: Page, table: Table) -> Page {
-    let mut page = page;
-    let mut rule: u8 = 1;
-    while rule <= 16 {
-        if admission::is_broken(table, rule) {
-            page = lines(text, page, table, rule);
+// A table with its entries, and the page on which these lines are laid.
+#[derive(Drop)]
+pub(crate) struct Report<'a, W> {
+    page: &'a mut Page<W>,
+    table: Table,
+    entries: [u16; 22],
+}
+
+impl<'a, W: Write> Report<'a, W> {
+    pub(crate) fn of(page: &'a mut Page<W>, table: Table) -> Report<'a, W> {
+        Report {
+            page,
+            table,
+            entries: table.entries(),
         }
-        rule += 1;
     }
-    page
-}
 
-// Those of one rule that is broken.
-fn lines(text: &mut [u8; 4096], page: Page, table: Table, rule: u8) -> Page {
-    let entries = table.entries();
-    match rule {
-        1 => zeros(text, page, &entries),
-        16 => delays(text, page, &entries),
-        _ => line(text, page, table, rule),
+    // The lines of all of them, rule by rule.
+    pub(crate) fn broken(&mut self) {
+        for rule in 1..=16 {
+            if admission::is_broken(self.table, rule) {
+                self.lines(rule);
+            }
+        }
     }
-}
 
-// Rule 1: each of the first eighteen entries that is 0.
-fn zeros(text: &mut [u8; 4096], page: Page, entries: &[u16; 22]) -> Page {
-    let mut page = page;
-    let mut number: usize = 0;
-    while number < 18 {
-        page = unless_set(text, page, 1, entries, number);
-        number += 1;
+    // Those of one rule that is broken.
+    fn lines(&mut self, rule: u8) {
+        match rule {
+            1 => self.zeros(),
+            16 => self.delays(),
+            _ => self.line(rule),
+        }
     }
-    page
-}
 
-// Rule 16: opening, then closing.
-fn delays(text: &mut [u8; 4096], page: Page, entries: &[u16; 22]) -> Page {
-    let page = unless_set(text, page, 16, entries, 18);
-    let page = unless_before(text, page, entries, 18, 19);
-    let page = unless_within(text, page, entries, 19, 3);
-    let page = unless_set(text, page, 16, entries, 20);
-    let page = unless_before(text, page, entries, 20, 21);
-    unless_within(text, page, entries, 21, 4)
-}
-
-// A line where an entry is 0.
-fn unless_set(
-    text: &mut [u8; 4096],
-    page: Page,
-    rule: u8,
-    entries: &[u16; 22],
-    number: usize,
-) -> Page {
-    if entry_at(entries, number) != 0 {
-        return page;
+    // Rule 1: each of the first eighteen entries that is 0.
+    fn zeros(&mut self) {
+        for entry in 0..18 {
+            self.unless_set(1, entry);
+        }
     }
-    let page = start(text, page, rule);
-    let page = entry(text, page, entries, number);
-    page.words(text, b" is less than 1").end(text)
-}
 
-// A line where a plain delay is not before the error delay.
-fn unless_before(
-    text: &mut [u8; 4096],
-    page: Page,
-    entries: &[u16; 22],
-    plain: usize,
-    error: usize,
-) -> Page {
-    if entry_at(entries, plain) < entry_at(entries, error) {
-        return page;
+    // Rule 16: opening, then closing, each by its plain delay, its error delay and its device.
+    fn delays(&mut self) {
+        self.delay(18, 19, 3);
+        self.delay(20, 21, 4);
     }
-    let page = start(text, page, 16);
-    let page = entry(text, page, entries, plain);
-    let page = page.words(text, b" is not less than ");
-    entry(text, page, entries, error).end(text)
-}
 
-// A line where an error delay is not within the device's limit.
-fn unless_within(
-    text: &mut [u8; 4096],
-    page: Page,
-    entries: &[u16; 22],
-    error: usize,
-    device: usize,
-) -> Page {
-    if entry_at(entries, error) <= entry_at(entries, device) {
-        return page;
+    fn delay(&mut self, plain: usize, error: usize, device: usize) {
+        self.unless_set(16, plain);
+        if self.value(error) <= self.value(plain) {
+            self.against(plain, b" is not less than ", error);
+        }
+        if self.value(device) < self.value(error) {
+            self.against(error, b" is more than ", device);
+        }
     }
-    let page = start(text, page, 16);
-    let page = entry(text, page, entries, error);
-    let page = page.words(text, b" is more than ");
-    entry(text, page, entries, device).end(text)
-}
 
-// The line of a rule from 2 to 15.
-fn line(text: &mut [u8; 4096], page: Page, table: Table, rule: u8) -> Page {
-    let entries = table.entries();
-    let page = start(text, page, rule);
-    let page = left(text, page, table, rule);
-    let page = compared(text, page, rule);
-    entry(text, page, &entries, right_entry(rule)).end(text)
-}
-
-fn start(text: &mut [u8; 4096], page: Page, rule: u8) -> Page {
-    let page = page.words(text, b"rule ");
-    page.figure(text, rule as u64).words(text, b": ")
-}
-
-// Its left side, and what this comes to where it is a sum.
-fn left(text: &mut [u8; 4096], page: Page, table: Table, rule: u8) -> Page {
-    let entries = table.entries();
-    match rule {
-        8 => entry(text, page, &entries, 7),
-        9 => entry(text, page, &entries, 8),
-        10 => entry(text, page, &entries, 11),
-        11 => entry(text, page, &entries, 12),
-        _ => sum(text, page, table, rule),
+    // A line where an entry is 0.
+    fn unless_set(&mut self, rule: u8, entry: usize) {
+        if self.value(entry) == 0 {
+            self.start(rule);
+            self.entry(entry);
+            self.page.words(b" is less than 1");
+            self.page.end();
+        }
     }
-}
 
-fn sum(text: &mut [u8; 4096], page: Page, table: Table, rule: u8) -> Page {
-    let page = terms(text, page, table, rule);
-    let page = page.words(text, b" = ");
-    page.figure(text, left_side(table, rule) as u64)
-}
-
-fn terms(text: &mut [u8; 4096], page: Page, table: Table, rule: u8) -> Page {
-    let entries = table.entries();
-    match rule {
-        2 => both_ways(text, page, &entries, 1),
-        3 => both_ways(text, page, &entries, 2),
-        4 => both_ways(text, page, &entries, 3),
-        5 => both_ways(text, page, &entries, 4),
-        6 => both_ways(text, page, &entries, 5),
-        7 => both_ways(text, page, &entries, 6),
-        12 => route(text, page, &entries, 9, 14),
-        13 => route(text, page, &entries, 10, 15),
-        14 => route_g1(text, page, table),
-        _ => route_g2(text, page, &entries),
+    // The line of rule 16 for two entries.
+    fn against(&mut self, entry: usize, words: &[u8], other: usize) {
+        self.start(16);
+        self.entry(entry);
+        self.page.words(words);
+        self.entry(other);
+        self.page.end();
     }
-}
 
-// Both ways over the channel, and the limit of a device.
-fn both_ways(text: &mut [u8; 4096], page: Page, entries: &[u16; 22], device: usize) -> Page {
-    let page = page.words(text, b"2 * ");
-    let page = entry(text, page, entries, 0);
-    plus(text, page, entries, device)
-}
-
-// F or N: the engine, the clutch opened, the gear, and the clutch closed.
-fn route(
-    text: &mut [u8; 4096],
-    page: Page,
-    entries: &[u16; 22],
-    engine: usize,
-    gear: usize,
-) -> Page {
-    let page = entry(text, page, entries, engine);
-    let page = plus(text, page, entries, 13);
-    let page = plus(text, page, entries, gear);
-    plus(text, page, entries, 16)
-}
-
-fn route_g1(text: &mut [u8; 4096], page: Page, table: Table) -> Page {
-    let entries = table.entries();
-    let page = entry(text, page, &entries, 8);
-    let page = plus(text, page, &entries, 15);
-    page.words(text, b" + F ")
-        .figure(text, left_side(table, 12) as u64)
-}
-
-fn route_g2(text: &mut [u8; 4096], page: Page, entries: &[u16; 22]) -> Page {
-    let page = entry(text, page, entries, 10);
-    let page = plus(text, page, entries, 13);
-    let page = plus(text, page, entries, 15);
-    let page = plus(text, page, entries, 14);
-    plus(text, page, entries, 16)
-}
-
-fn plus(text: &mut [u8; 4096], page: Page, entries: &[u16; 22], number: usize) -> Page {
-    let page = page.words(text, b" + ");
-    entry(text, page, entries, number)
-}
-
-// An entry's name and its milliseconds.
-fn entry(text: &mut [u8; 4096], page: Page, entries: &[u16; 22], number: usize) -> Page {
-    let page = desk::name(text, page, number).words(text, b" ");
-    page.figure(text, entry_at(entries, number) as u64)
-}
-
-// How a broken rule has its sides.
-fn compared(text: &mut [u8; 4096], page: Page, rule: u8) -> Page {
-    if is_strict(rule) {
-        return page.words(text, b" is not less than ");
+    // The line of a rule from 2 to 15.
+    fn line(&mut self, rule: u8) {
+        self.start(rule);
+        self.left(rule);
+        self.page.words(if is_strict(rule) {
+            b" is not less than "
+        } else {
+            b" is more than "
+        });
+        self.entry(right_entry(rule));
+        self.page.end();
     }
-    page.words(text, b" is more than ")
+
+    fn start(&mut self, rule: u8) {
+        self.page.words(b"rule ");
+        self.page.figure(rule);
+        self.page.words(b": ");
+    }
+
+    // Its left side, and what this comes to where it is a sum.
+    fn left(&mut self, rule: u8) {
+        match rule {
+            8 => self.entry(7),
+            9 => self.entry(8),
+            10 => self.entry(11),
+            11 => self.entry(12),
+            _ => {
+                self.sum(rule);
+                self.page.words(b" = ");
+                self.page.figure(left_side(self.table, rule));
+            }
+        }
+    }
+
+    fn sum(&mut self, rule: u8) {
+        match rule {
+            // Both ways over the channel, and the limit of a device.
+            2..=7 => {
+                self.page.words(b"2 * ");
+                self.terms(&[0, usize::from(rule) - 1]);
+            }
+            // F and N: the engine, the clutch opened, the gear, and the clutch closed.
+            12 => self.terms(&[9, 13, 14, 16]),
+            13 => self.terms(&[10, 13, 15, 16]),
+            // G1, by way of F.
+            14 => {
+                self.terms(&[8, 15]);
+                self.page.words(b" + F ");
+                self.page.figure(left_side(self.table, 12));
+            }
+            // G2.
+            _ => self.terms(&[10, 13, 15, 14, 16]),
+        }
+    }
+
+    // Entries, with a plus sign between.
+    fn terms(&mut self, entries: &[usize]) {
+        for (index, entry) in entries.iter().enumerate() {
+            if index != 0 {
+                self.page.words(b" + ");
+            }
+            self.entry(*entry);
+        }
+    }
+
+    // An entry's name and its milliseconds.
+    fn entry(&mut self, entry: usize) {
+        let value = self.value(entry);
+        self.page.words(name(entry));
+        self.page.words(b" ");
+        self.page.figure(value);
+    }
+
+    fn value(&self, entry: usize) -> u16 {
+        entry_at(&self.entries, entry)
+    }
 }

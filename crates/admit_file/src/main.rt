@@ -2,32 +2,28 @@
 // table is not admitted.
 #![tactic(auto)]
 
-use desk::Given;
 use limits::Table;
-use output::Sent;
+use output::Unwritten;
 use std::io::{Stderr, Stdout};
 use std::process::ExitCode;
-use stepfile::write::Wish;
 
 fn main(rt: HostRuntime) -> ExitCode {
-    let given = desk::read(&mut rt.stdin(), rt.stdout());
-    match given {
-        Given::One(table) => write(rt.stdout(), rt.stderr(), table).status(),
-        Given::Nothing => ExitCode::SUCCESS,
-        Given::Unread => Sent::Unread.status(),
-    }
+    let written = match desk::read(&mut rt.stdin()) {
+        Ok(table) => write(rt.stdout(), rt.stderr(), table),
+        Err(why) => why.say(rt.stdout()),
+    };
+    output::status(written)
 }
 
 // Writes the step file of a table, nothing where it is not admitted, and answers how the last writing ended.
-fn write(out: Stdout, err: Stderr, table: Table) -> Sent {
-    let amounts = [0u32; 1];
-    // A header of 12 bytes, and 2 for each of 22 entries.
+fn write(mut out: Stdout, mut err: Stderr, table: Table) -> Result<(), Unwritten> {
+    // A header of 12 bytes, and 2 for each of 22 entries. Nothing is allocated.
     let mut file = [0u8; 56];
-    let written = stepfile::write::write(Wish::Given(table), b"", &amounts[..0], &mut file);
-    let length = written.length;
-    let sent = Sent::of(out.write_all(&file[..length]));
-    match sent {
-        Sent::Part => Sent::of(err.write_all(b"admit_file: the file could not be written\n")),
-        _ => sent,
-    }
+    let length = stepfile::write::write(Some(table), &[], &[], &mut file).unwrap_or(0);
+    let written = output::write(&mut out, &file[..length]);
+    output::tell(
+        &mut err,
+        written,
+        b"admit_file: the file could not be written\n",
+    )
 }

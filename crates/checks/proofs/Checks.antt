@@ -5,11 +5,10 @@ use mathlib.Core.Bool.{Bool, true, false, not, ◌&&◌, cond}
 use mathlib.Core.Logic.{◌⊎◌, inl, inr, ⊎_elim}
 use mathlib.Core.List.{List, [], ◌∷◌, ◌++◌, append-nil}
 use Prim.Native.Nat.{ℕ, zero, suc, ◌≤◌}
-use native.Mathlib.Decide.{dec_lt}
 use native.Mathlib.Omega.{arith}
-use lib.Dec.{T, leb, ltb, eqb, leb→le}
-use borrow.Author.Tests.{eqb-false, not-true, le-leb, lt-leb, le-ltb, lt-ltb}
-use Rattle.checks.specs.Checks.{Check, ◌!◌, first}
+use lib.Dec.{T, leb, eqb, leb→le}
+use borrow.Author.Tests.{eqb-false, not-true}
+use Rattle.checks.specs.Checks.{Check, first}
 use Rattle.checks.proofs.Tests.{passed, left, right, case}
 
 -- ---- a list that holds answers 0
@@ -113,11 +112,3 @@ between l m (c ∷ cs) h =
 
 pub at_most : (m : ℕ) (cs : List Check) → T (within 0 m cs) → first cs ≤ m
 at_most m cs h = ⊎_elim (λ z. omega arith) (λ b. b.1) (between 0 m cs h)
-
--- ---- a list of one check, whose failure was tested: x is past y
-pub one_check : {b : Bool} (x y k : ℕ) → b ≡ ltb y x → cond b k 0 ≡ first ((leb x y ! k) ∷ [])
-one_check {b} x y k e =
-    elim (dec_lt y x) [
-      | yes h ↦ rw (e, lt-ltb y x h, lt-leb x y h)
-      | no h ↦ let l : x ≤ y = omega arith in rw (e, le-ltb y x l, le-leb x y l)
-    ]

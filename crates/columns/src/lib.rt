@@ -1,177 +1,140 @@
-// A page for people: words and numbers padded to the width of their column, and words between, in a text that is written to standard
-// output whenever it is full.
+// A page for people: words and numbers padded to the width of their column, and words between, in a text that is written whenever it
+// is full. Words are bytes, as what is written is.
 #![tactic(auto)]
 
-ghost use Rattle.std.specs.Prelude.{◌≡◌, ◌-◌, ◌≤◌, ◌<◌, length};
+ghost use Rattle.std.specs.Prelude.{◌≡◌, ◌+◌, ◌-◌, ◌<◌, [], ◌∷◌, length, replicate, IsOk, OnOk};
+ghost use Rattle.std.specs.Io.KnownBytes.{Keeps};
+ghost use Rattle.columns.specs.Laid.{laid, owed, Lays, behind_spaces};
 
-use output::Sent;
-use std::io::Stdout;
+use arrayvec::ArrayVec;
+use itoa::{Buffer, Integer};
+use output::Unwritten;
+use std::io::Write;
 
-// A page as far as it is laid: where it is written, the bytes of the text that are in use, the spaces that a further cell of the row
-// has before it, and how writing went so far.
-#[derive(Clone, Copy)]
-pub struct Page {
-    out: Stdout,
-    used: usize,
-    owed: usize,
-    sent: Sent,
-}
+mod page;
 
-impl Page {
+pub use page::Page;
+
+impl<W: Write> Page<W> {
     // A page without a row.
-    pub fn blank(out: Stdout) -> Page {
+    pub fn blank(out: W) -> Page<W>
+        ensures laid { laid W.contents result ≡ W.contents out }
+        ensures owed { owed result ≡ 0 }
+    {
         Page {
             out,
-            used: 0,
+            text: ArrayVec::new(),
             owed: 0,
-            sent: Sent::Whole,
+            written: Ok(()),
         }
     }
 
     // A cell with a word at its left.
-    pub fn left(self, text: &mut [u8; 4096], word: &[u8], width: u8) -> Page {
-        let page = self.indented(text).bytes(text, word);
-        page.owing(padding(width as usize, word.len()) + 2)
+    pub fn left(&mut self, word: &[u8], width: u8)
+        ensures lays { Lays W.contents self.old self.new (behind_spaces (owed self.old) word.now) }
+        ensures owed { owed self.new ≡ width - length word.now + 2 }
+    {
+        self.words(word);
+        self.owed = padding(width, word.len()) + 2;
     }
 
     // A cell with a word at its right.
-    pub fn right(self, text: &mut [u8; 4096], word: &[u8], width: u8) -> Page {
-        let page = self.spaced(text, padding(width as usize, word.len()));
-        page.bytes(text, word).owing(2)
+    pub fn right(&mut self, word: &[u8], width: u8)
+        ensures lays { Lays W.contents self.old self.new (behind_spaces (owed self.old + (width - length word.now)) word.now) }
+        ensures owed { owed self.new ≡ 2 }
+    {
+        self.spaces(self.owed + padding(width, word.len()));
+        self.bytes(word);
+        self.owed = 2;
     }
 
     // A cell with a number in decimal at its right.
-    pub fn number(self, text: &mut [u8; 4096], n: u64, width: u8) -> Page {
-        let mut digits = [0u8; 20];
-        let count = io::decimal(n, &mut digits);
-        self.right(text, &digits[..count], width)
-    }
-
-    // A cell with the difference of two numbers at its right, behind a minus sign where the second is the larger one.
-    pub fn difference(self, text: &mut [u8; 4096], n: u64, less: u64, width: u8) -> Page {
-        if less <= n {
-            return self.number(text, n - less, width);
-        }
-        let mut digits = [0u8; 20];
-        let count = io::decimal(less - n, &mut digits);
-        let unsigned = padding(width as usize, 1);
-        let page = self.spaced(text, padding(unsigned, count)).byte(text, b'-');
-        page.bytes(text, &digits[..count]).owing(2)
+    pub fn number<I: Integer>(&mut self, n: I, width: u8)
+        ensures lays { Lays W.contents self.old self.new (behind_spaces (owed self.old + (width - length (I.text n))) (I.text n)) }
+        ensures owed { owed self.new ≡ 2 }
+    {
+        self.right(Buffer::new().format(n).as_bytes(), width);
     }
 
     // Words that stand in no column: nothing is owed behind them.
-    pub fn words(self, text: &mut [u8; 4096], words: &[u8]) -> Page {
-        self.indented(text).bytes(text, words).owing(0)
+    pub fn words(&mut self, words: &[u8])
+        ensures lays { Lays W.contents self.old self.new (behind_spaces (owed self.old) words.now) }
+        ensures owed { owed self.new ≡ 0 }
+    {
+        self.spaces(self.owed);
+        self.bytes(words);
+        self.owed = 0;
     }
 
     // A number in decimal among such words.
-    pub fn figure(self, text: &mut [u8; 4096], n: u64) -> Page {
-        let mut digits = [0u8; 20];
-        let count = io::decimal(n, &mut digits);
-        self.words(text, &digits[..count])
+    pub fn figure<I: Integer>(&mut self, n: I)
+        ensures lays { Lays W.contents self.old self.new (behind_spaces (owed self.old) (I.text n)) }
+        ensures owed { owed self.new ≡ 0 }
+    {
+        self.words(Buffer::new().format(n).as_bytes());
     }
 
     // The end of a row. Nothing stands behind its last word.
-    pub fn end(self, text: &mut [u8; 4096]) -> Page {
-        self.byte(text, b'\n').owing(0)
+    pub fn end(&mut self)
+        ensures lays { Lays W.contents self.old self.new (10 ∷ []) }
+        ensures owed { owed self.new ≡ 0 }
+    {
+        self.byte(b'\n');
+        self.owed = 0;
     }
 
     // Writes what is left, and answers how writing the whole page ended.
-    pub fn close(self, text: &mut [u8; 4096]) -> Sent {
-        let page = self.room(text);
-        page.written(text, page.used)
-    }
-
-    fn owing(self, owed: usize) -> Page {
-        Page {
-            out: self.out,
-            used: self.used,
-            owed,
-            sent: self.sent,
-        }
-    }
-
-    // The spaces that are owed, and so many more.
-    fn spaced(self, text: &mut [u8; 4096], more: usize) -> Page {
-        self.indented(text).owing(more).indented(text)
-    }
-
-    // The spaces that are owed.
-    fn indented(self, text: &mut [u8; 4096]) -> Page {
-        let mut page = self;
-        let count = self.owed;
-        let mut i: usize = 0;
-        while i < count {
-            page = page.byte(text, b' ');
-            i += 1;
-        }
-        page
-    }
-
-    fn bytes(self, text: &mut [u8; 4096], bytes: &[u8]) -> Page {
-        let mut page = self;
-        let mut i: usize = 0;
-        while i < bytes.len() {
-            page = page.byte(text, bytes[i]);
-            i += 1;
-        }
-        page
-    }
-
-    fn byte(self, text: &mut [u8; 4096], byte: u8) -> Page
-        ensures { result.used ≤ 4096 }
+    pub fn close(&mut self) -> Result<(), Unwritten>
+        ensures { OnOk result (IsOk self.old.written × Keeps (laid W.contents self.old) (W.contents self.new.out)) }
     {
-        let page = self.room(text);
-        let used = page.used;
-        text[used] = byte;
-        Page {
-            out: page.out,
-            used: used + 1,
-            owed: page.owed,
-            sent: page.sent,
-        }
+        self.flush();
+        self.written
     }
 
-    // Room for a byte more: a text that is full is written, if all before it was.
-    fn room(self, text: &mut [u8; 4096]) -> Page
-        ensures { result.used < 4096 }
+    fn spaces(&mut self, count: usize)
+        ensures lays { Lays W.contents self.old self.new (replicate count 32) }
+        ensures owed { owed self.new ≡ owed self.old }
     {
-        if self.used < 4096 {
-            return self;
-        }
-        let sent = self.written(text, 4096);
-        Page {
-            out: self.out,
-            used: 0,
-            owed: self.owed,
-            sent,
+        for _ in 0..count {
+            self.byte(b' ');
         }
     }
 
-    // Writes the first bytes of a text, if all before it was written, and answers how writing went.
-    fn written(self, text: &[u8], count: usize) -> Sent
-        requires { count ≤ length text.now }
+    fn bytes(&mut self, bytes: &[u8])
+        ensures lays { Lays W.contents self.old self.new bytes.now }
+        ensures owed { owed self.new ≡ owed self.old }
     {
-        match self.sent {
-            Sent::Whole => write(self.out, text, count),
-            _ => self.sent,
+        for byte in bytes {
+            self.byte(*byte);
         }
     }
-}
 
-// Writes the first bytes of a text, and answers how that ended.
-fn write(out: Stdout, text: &[u8], count: usize) -> Sent
-    requires { count ≤ length text.now }
-{
-    Sent::of(out.write_all(&text[..count]))
+    fn byte(&mut self, byte: u8)
+        ensures lays { Lays W.contents self.old self.new (byte ∷ []) }
+        ensures owed { owed self.new ≡ owed self.old }
+    {
+        if self.text.is_full() {
+            self.flush();
+        }
+        self.text.try_push(byte).unwrap();
+    }
+
+    // Writes the text, if all before it was written.
+    fn flush(&mut self)
+        ensures empty { self.new.text.items ≡ [] }
+        ensures lays { Lays W.contents self.old self.new [] }
+        ensures owed { owed self.new ≡ owed self.old }
+    {
+        if self.written.is_ok() {
+            self.written = output::write(&mut self.out, self.text.as_slice());
+        }
+        self.text.clear();
+    }
 }
 
 // How many spaces fill a column of this width beside so many bytes.
-fn padding(width: usize, length: usize) -> usize
+fn padding(width: u8, length: usize) -> usize
     ensures { result ≡ width - length }
 {
-    if width < length {
-        return 0;
-    }
-    width - length
+    usize::from(width).saturating_sub(length)
 }

@@ -1,9 +1,9 @@
 -- The deadline is the last clock that a tick may reach; no tick moves it, and what it is made of moves only where a phase is entered.
 -- Assumes nothing.
-use mathlib.Core.Path.{◌≡◌, refl, ap, subst, ◌∙◌}
-use mathlib.Core.Bool.{Bool, true, false, cond, ◌&&◌}
+use mathlib.Core.Path.{◌≡◌, refl, ap, subst}
+use mathlib.Core.Bool.{Bool, true, false, cond}
 use mathlib.Core.List.{[], ◌∷◌}
-use Prim.Native.Nat.{ℕ, ◌-◌, ◌≤◌, ◌<◌, zero-le}
+use Prim.Native.Nat.{ℕ, ◌-◌, ◌≤◌, ◌<◌}
 use native.Mathlib.Decide.{dec_lt}
 use native.Mathlib.Omega.{arith}
 use lib.Dec.{T, leb, leb→le, le→leb}
@@ -33,42 +33,6 @@ module _ (a b n : ℕ) where
       elim (dec_lt b a) [
         | yes l ↦ rw (lt-leb a b l) k
         | no l ↦ rw (le-leb a b (omega arith)) h
-      ]
-
--- ---- a stage's end beside a clock: whether the clock is past it, where there is one
-module _ (end now : ℕ) where
-  pub past_stage : (l : Bool) → cond l (lesser now end) now < now → leb (cond l now 0) end ≡ false
-  past_stage true h =
-      elim (dec_lt end now) [
-        | yes k ↦ lt-leb now end k
-        | no k ↦ let m : now ≤ lesser now end = both_below now end now (omega arith) (omega arith) in absurd (omega arith)
-      ]
-  past_stage false h = absurd (omega arith)
-
-  pub in_stage : (l : Bool) → now ≤ cond l (lesser now end) now → leb (cond l now 0) end ≡ true
-  in_stage true h = le-leb now end (below_both now end now h).1
-  in_stage false h = le-leb 0 end zero-le
-
--- ---- where there is one
-never : (b : Bool) → (b && false) ≡ false
-never true = refl
-never false = refl
-
-module _ (s : State) where
-  abbrev staged : Bool
-  staged = leb 1 s.stage && leb s.stage 3
-
-  pub in_force : unfinished s.phase ≡ true → 1 ≤ s.stage → s.stage ≤ 3 → limited s ≡ true
-  in_force u i j = ap (λ b. b && staged) u ∙ rw (le-leb 1 s.stage i, le-leb s.stage 3 j)
-
-  pub not_shifting : unfinished s.phase ≡ false → limited s ≡ false
-  not_shifting u = ap (λ b. b && staged) u
-
-  pub idle : ¬ (s.stage ≡ 1) × ¬ (s.stage ≡ 3) → ¬ (s.stage ≡ 2) → limited s ≡ false
-  idle n o =
-      elim (dec_lt s.stage 1) [
-        | yes i ↦ rw (lt-leb 1 s.stage i) (never (unfinished s.phase))
-        | no i ↦ rw (le-leb 1 s.stage (omega arith), lt-leb s.stage 3 (omega arith)) (never (unfinished s.phase))
       ]
 
 -- ---- a clock against the three limits, of which the second and the third may not apply

@@ -4,7 +4,7 @@
 ghost use Rattle.std.specs.Prelude.{◌≡◌};
 ghost use Rattle.limits.specs.Limits.{table_of};
 ghost use Rattle.phases.specs.Phases.{order_of, device_limit};
-ghost use Rattle.deadlines.specs.Deadlines.{lesser, phase_end_of, deadline_by, late_by, over_by, enters};
+ghost use Rattle.deadlines.specs.Deadlines.{phase_end_of, deadline_by, late_by, over_by, enters};
 
 use limits::entry_at;
 use phases::{device_entry, is_unfinished, order_of, phase_entry};
@@ -15,39 +15,37 @@ use times::{beyond, bound};
 pub fn phase_end(state: State, entries: &[u16; 22]) -> u64
     ensures { result ≡ phase_end_of (table_of entries.now) state }
 {
-    let phase = state.phase;
-    if is_unfinished(phase) {
-        let limit = entry_at(entries, phase_entry(order_of(phase)));
-        return lesser(4294967295, bound(state.phase_time, limit));
+    if is_unfinished(state.phase) {
+        let limit = entry_at(entries, phase_entry(order_of(state.phase)));
+        return bound(state.phase_time, limit).min(4294967295);
     }
     4294967295
 }
 
-// The device limit of the phase, from a table's entries.
+// The device limit of the phase, from a table's entries, which the judge's loop has at hand: `phases::device_limit` makes them of a table.
 pub fn device_limit(state: State, entries: &[u16; 22]) -> u16
     ensures { result ≡ device_limit (table_of entries.now) (order_of state.phase) }
 {
     entry_at(entries, device_entry(order_of(state.phase)))
 }
 
-// The last clock, by the limit of the channel or the device too.
+// The last clock, by the limit of the channel or the device too. State and limits stand apart, here and below, as the definitions
+// deadline_by, late_by and over_by take them: the judge's loop replaces them one by one.
 pub fn deadline(state: State, phase_end: u64, device: u16, channel: u16) -> u64
     ensures { result ≡ deadline_by phase_end device channel state }
 {
-    let phase = state.phase;
-    let stage = state.stage;
-    if is_unfinished(phase) {
-        if (stage == 1) | (stage == 3) {
-            return lesser(phase_end, bound(state.stage_time, channel));
-        }
-        if stage == 2 {
-            return lesser(phase_end, bound(state.stage_time, device));
-        }
+    if !is_unfinished(state.phase) {
+        return phase_end;
     }
-    phase_end
+    match state.stage {
+        1 | 3 => phase_end.min(bound(state.stage_time, channel)),
+        2 => phase_end.min(bound(state.stage_time, device)),
+        _ => phase_end,
+    }
 }
 
-// The number that refuses a tick to a clock past the deadline.
+// The number that refuses a tick to a clock past the deadline. A number here and in `over`, and no `shift::Refused`: the judge puts it into
+// the verdict, which C reads, and hands it to `over`, whose contract answers for any.
 pub fn late(state: State, clock: u64, device: u16, channel: u16) -> u8
     ensures { result ≡ late_by device channel state clock }
 {
@@ -90,11 +88,4 @@ pub fn enters(x: Step) -> bool
         Step::Tick(_) => false,
         Step::Reset => true,
     }
-}
-
-// The lesser of two clocks.
-fn lesser(a: u64, b: u64) -> u64
-    ensures { result ≡ lesser a b }
-{
-    if a <= b { a } else { b }
 }

@@ -1,138 +1,128 @@
-// The desk's reading: the limit table that a reader gives, as a text or in a step file; else what is wrong, as one line on standard
-// output.
+// The desk's reading: the limit table that a reader gives, as a text or in a step file; else why there is none, as one line.
 #![tactic(auto)]
 
+ghost use Rattle.std.specs.Prelude.{◌≡◌};
+ghost use Rattle.desk.specs.declared.NoTable.TheVariants.{Unreadable};
+
 use columns::Page;
+use input::ReadFailed;
 use limits::Table;
-use output::Sent;
+use output::Unwritten;
 use std::fs;
-use std::io::{Read, Stdout};
+use std::io::{Read, Write};
 use std::rt::Files;
-use tabletext::{Fault, Text};
+use stepfile::Unread;
+use tabletext::{Fault, FaultKind};
+use tablewords::names::name;
 
-// The table that was given, or none; or none and nobody who reads why.
-#[derive(Clone, Copy)]
-pub enum Given {
-    One(Table),
-    Nothing,
-    Unread,
+// Why a reader gives no table.
+#[derive(Clone, Copy, Debug, PartialEq, Eq)]
+pub enum NoTable {
+    Unreadable,
+    // A step file, and why it is refused.
+    Refused(Unread),
+    TooLong,
+    Wrong(Fault),
 }
 
-// What a reader gives; where it is no table, that is said.
-pub fn read<R: Read>(reader: &mut R, out: Stdout) -> Given {
-    // One byte longer than the longest text and the longest good step file.
+impl From<ReadFailed> for NoTable {
+    ghost from_gives = { λ _ why. why ≡ Unreadable };
+
+    fn from(_failed: ReadFailed) -> NoTable {
+        NoTable::Unreadable
+    }
+}
+
+// The table that a reader gives.
+pub fn read<R: Read>(reader: &mut R) -> Result<Table, NoTable> {
+    // One byte longer than the longest text and the longest good step file. Nothing is allocated.
     let mut bytes = [0u8; 65537];
-    let input = input::read_all(reader, &mut bytes);
-    if input.failed {
-        return unreadable(out);
-    }
-    let length = input.length;
-    given_by(out, &bytes[..length])
+    let count = input::read_all(reader, &mut bytes)?;
+    table(&bytes[..count])
 }
 
-// What the file of a name gives; one that can not be opened can not be read.
-pub fn read_file<R: Files>(files: &R, name: &str, out: Stdout) -> Given {
-    let opened = fs::open(files, name);
-    match opened {
-        Ok(mut file) => read(&mut file, out),
-        Err(_) => unreadable(out),
-    }
-}
-
-fn unreadable(out: Stdout) -> Given {
-    nothing(out, b"it can not be read")
-}
-
-// A line that says why there is no table.
-fn nothing(out: Stdout, words: &[u8]) -> Given {
-    let mut text = [0u8; 4096];
-    let page = Page::blank(out).words(&mut text, words);
-    said(&mut text, page)
-}
-
-fn said(text: &mut [u8; 4096], page: Page) -> Given {
-    match page.end(text).close(text) {
-        Sent::Unread => Given::Unread,
-        _ => Given::Nothing,
+// The table that the file of a name gives; one that can not be opened can not be read.
+pub fn read_file<R: Files>(files: &R, name: &str) -> Result<Table, NoTable> {
+    match fs::open(files, name) {
+        Ok(mut file) => read(&mut file),
+        Err(_) => Err(NoTable::Unreadable),
     }
 }
 
 // What bytes give: those of a step file begin with 12 and 0, which no text that says a table does.
-fn given_by(out: Stdout, bytes: &[u8]) -> Given {
-    if (2 <= bytes.len()) & (numbers::u16_at(bytes, 0) == 12) {
-        return by_steps(out, bytes);
+fn table(bytes: &[u8]) -> Result<Table, NoTable> {
+    if bytes.starts_with(&[12, 0]) {
+        return in_steps(bytes);
     }
     if 65536 < bytes.len() {
-        return nothing(out, b"the text is longer than 65536 bytes");
+        return Err(NoTable::TooLong);
     }
-    by_text(out, bytes)
+    in_text(bytes)
 }
 
 // The table of a step file that is good, or refused with 4.
-fn by_steps(out: Stdout, file: &[u8]) -> Given {
-    let number = stepfile::refused(file).number;
-    match number {
-        1 => nothing(
-            out,
-            b"the step file is refused with 1: it has fewer than 12 bytes",
-        ),
-        2 => nothing(
-            out,
-            b"the step file is refused with 2: a header field, or too many records",
-        ),
-        3 => nothing(out, b"the step file is refused with 3: its length"),
-        _ => Given::One(stepfile::table(file)),
+fn in_steps(file: &[u8]) -> Result<Table, NoTable> {
+    match stepfile::refused(file) {
+        Ok(()) | Err(Unread::Table(_)) => Ok(stepfile::table(file)),
+        Err(unread) => Err(NoTable::Refused(unread)),
     }
 }
 
-fn by_text(out: Stdout, text: &[u8]) -> Given {
-    let answer = tabletext::read(text);
-    match answer {
-        Text::Says(table) => Given::One(table),
-        Text::Wrong(fault) => wrong(out, fault),
+fn in_text(text: &[u8]) -> Result<Table, NoTable> {
+    tabletext::read(text).map_err(NoTable::Wrong)
+}
+
+impl NoTable {
+    // Writes a line that says so.
+    pub fn say<W: Write + Drop>(self, out: W) -> Result<(), Unwritten> {
+        let mut page = Page::blank(out);
+        match self {
+            NoTable::Unreadable => page.words(b"it can not be read"),
+            NoTable::Refused(unread) => refused(&mut page, unread),
+            NoTable::TooLong => page.words(b"the text is longer than 65536 bytes"),
+            NoTable::Wrong(fault) => wrong(&mut page, fault),
+        }
+        page.end();
+        page.close()
     }
+}
+
+fn refused<W: Write>(page: &mut Page<W>, unread: Unread) {
+    page.words(b"the step file is refused with ");
+    page.figure(unread.number());
+    page.words(match unread {
+        Unread::TooShort => b": it has fewer than 12 bytes",
+        Unread::Header => b": a header field, or too many records",
+        Unread::Length => b": its length",
+        Unread::Table(_) => b": its table",
+    });
 }
 
 // What is wrong with a text.
-fn wrong(out: Stdout, fault: Fault) -> Given {
-    let mut text = [0u8; 4096];
-    let page = Page::blank(out).words(&mut text, b"line ");
-    let page = page
-        .figure(&mut text, fault.line as u64)
-        .words(&mut text, b": ");
-    let page = what(&mut text, page, fault.number, fault.entry);
-    said(&mut text, page)
-}
-
-fn what(text: &mut [u8; 4096], page: Page, number: u8, entry: usize) -> Page {
-    match number {
-        1 => page.words(text, b"its first word is no name of an entry"),
-        2 => name(text, page, entry).words(text, b" stands there a second time"),
-        3 => name(text, page, entry).words(text, b" wants one number behind it, in digits"),
-        4 => name(text, page, entry).words(text, b" has a number above 65535"),
-        _ => missing(text, page, entry),
+fn wrong<W: Write>(page: &mut Page<W>, fault: Fault) {
+    page.words(b"line ");
+    page.figure(fault.line);
+    page.words(b": ");
+    match fault.kind {
+        FaultKind::NoName => page.words(b"its first word is no name of an entry"),
+        FaultKind::Twice(entry) => named(page, entry, b" stands there a second time"),
+        FaultKind::NoNumber(entry) => {
+            named(page, entry, b" wants one number behind it, in digits");
+        }
+        FaultKind::Above(entry) => named(page, entry, b" has a number above 65535"),
+        FaultKind::Missing(entry) => missing(page, entry),
     }
 }
 
-fn missing(text: &mut [u8; 4096], page: Page, entry: usize) -> Page {
-    let page = page.words(text, b"the text ends without ");
-    let page = name(text, page, entry);
-    if entry < 18 {
-        return page;
+fn named<W: Write>(page: &mut Page<W>, entry: usize, words: &[u8]) {
+    page.words(name(entry));
+    page.words(words);
+}
+
+fn missing<W: Write>(page: &mut Page<W>, entry: usize) {
+    page.words(b"the text ends without ");
+    page.words(name(entry));
+    if 18 <= entry {
+        page.words(b", and has another delay");
     }
-    page.words(text, b", and has another delay")
-}
-
-// The name of an entry among words.
-pub fn name(text: &mut [u8; 4096], page: Page, entry: usize) -> Page {
-    let mut space = [0u8; 21];
-    let size = tablewords::names::name(entry, &mut space);
-    page.words(text, &space[..size])
-}
-
-// The name of an entry as a cell of a table.
-pub fn name_cell(text: &mut [u8; 4096], page: Page, entry: usize) -> Page {
-    let mut space = [0u8; 21];
-    let size = tablewords::names::name(entry, &mut space);
-    page.left(text, &space[..size], 21)
 }

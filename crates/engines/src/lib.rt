@@ -1,104 +1,120 @@
 // What a case of records for both engines is answered by: each from its start, up to its first number that is not 0.
 #![tactic(auto)]
 
-ghost use Rattle.std.specs.Prelude.{◌/◌, ◌<◌, length};
-
 use limits::Table;
 use manual::{Moved, Variables};
 use manual_reading::Read;
-use printing::{number, number8, number32, number64};
+use printing::Line;
 use shift::{Answer, State};
 use std::io::Write;
 
 // The line of a table and records, behind its word: of the manual's engine, then of ours.
 pub fn print(writer: &mut impl Write, table: Table, records: &[u8]) {
-    print_manual(writer, table, records);
-    print_ours(writer, table, records);
+    let mut line = Line::to(writer);
+    print_run::<Moved>(&mut line, table, records);
+    print_run::<Answer>(&mut line, table, records);
 }
 
-// A record's four bytes.
-#[derive(Clone, Copy)]
-struct Record {
-    code: u8,
-    middle: u8,
-    low: u8,
-    high: u8,
-}
+// An engine, by its answer to a record.
+trait Engine: Copy {
+    // What it has before any record.
+    fn start() -> Self;
 
-// The record of this index.
-fn record_at(records: &[u8], index: usize) -> Record
-    requires { index < length records.now / 4 }
-{
-    let at = 4 * index;
-    Record {
-        code: records[at],
-        middle: records[at + 1],
-        low: records[at + 2],
-        high: records[at + 3],
-    }
-}
+    // Its answer to a record's four bytes, on what it has kept.
+    fn advanced(self, table: Table, record: [u8; 4]) -> Self;
 
-// An amount's two bytes.
-fn amount_of(low: u8, high: u8) -> u32 {
-    low as u32 + 256 * (high as u32)
+    fn number(self) -> u8;
+
+    fn rule(self) -> u8;
+
+    fn excess(self) -> u64;
+
+    fn print_kept(self, line: &mut Line<impl Write>);
 }
 
 // The manual's engine, from INITIALISATION.
-fn print_manual(writer: &mut impl Write, table: Table, records: &[u8]) {
-    let mut moved = Moved {
-        number: 0,
-        rule: 0,
-        excess: 0,
-        variables: Variables::initialisation(),
-    };
-    let mut accepted: usize = 0;
-    while accepted < records.len() / 4 {
-        let v = moved.variables;
-        let r = record_at(records, accepted);
-        moved = manual_engine::step(v, table, r.code, r.middle, amount_of(r.low, r.high));
-        if moved.number != 0 {
-            break;
-        }
-        accepted += 1;
+impl Engine for Moved {
+    fn start() -> Moved {
+        Moved::accepted(Variables::initialisation())
     }
-    print_end(writer, moved.number, moved.rule, accepted, moved.excess);
-    print_variables(writer, moved.variables);
-}
 
-fn print_variables(writer: &mut impl Write, v: Variables) {
-    print_flags(writer, &flags(v));
-    print_times(writer, &times(v));
-    print_read(writer, manual_reading::reading(v));
+    fn advanced(self, table: Table, record: [u8; 4]) -> Moved {
+        let [code, middle, low, high] = record;
+        let amount = u32::from(u16::from_le_bytes([low, high]));
+        manual_engine::step(self.variables, table, code, middle, amount)
+    }
+
+    fn number(self) -> u8 {
+        self.number
+    }
+
+    fn rule(self) -> u8 {
+        self.rule
+    }
+
+    fn excess(self) -> u64 {
+        self.excess
+    }
+
+    fn print_kept(self, line: &mut Line<impl Write>) {
+        line.flags(&flags(self.variables));
+        for time in times(self.variables) {
+            line.number(time);
+        }
+        print_read(line, manual_reading::reading(self.variables));
+    }
 }
 
 // Our engine, from its start.
-fn print_ours(writer: &mut impl Write, table: Table, records: &[u8]) {
-    let mut answer = Answer {
-        number: 0,
-        rule: 0,
-        excess: 0,
-        state: State::start(),
-    };
-    let mut accepted: usize = 0;
-    while accepted < records.len() / 4 {
-        let state = answer.state;
-        let r = record_at(records, accepted);
-        answer = gateway::advanced(state, table, r.code, r.middle, r.low, r.high);
-        if answer.number != 0 {
-            break;
+impl Engine for Answer {
+    fn start() -> Answer {
+        Answer {
+            number: 0,
+            rule: 0,
+            excess: 0,
+            state: State::start(),
         }
-        accepted += 1;
     }
-    print_end(writer, answer.number, answer.rule, accepted, answer.excess);
-    printing::state(writer, answer.state);
+
+    fn advanced(self, table: Table, record: [u8; 4]) -> Answer {
+        let [code, middle, low, high] = record;
+        gateway::advanced(self.state, table, code, middle, low, high)
+    }
+
+    fn number(self) -> u8 {
+        self.number
+    }
+
+    fn rule(self) -> u8 {
+        self.rule
+    }
+
+    fn excess(self) -> u64 {
+        self.excess
+    }
+
+    fn print_kept(self, line: &mut Line<impl Write>) {
+        line.state(self.state);
+    }
 }
 
-// The last number, its rule, how many records were accepted, and the last excess.
-fn print_end(writer: &mut impl Write, last: u8, rule: u8, accepted: usize, excess: u64) {
-    number8(writer, last);
-    number8(writer, rule);
-    number(writer, accepted);
-    number64(writer, excess);
+// The last number, its rule, how many records were accepted, the last excess, and what the engine keeps.
+fn print_run<E: Engine>(line: &mut Line<impl Write>, table: Table, records: &[u8]) {
+    let (records, _) = records.as_chunks::<4>();
+    let mut answer = E::start();
+    let mut accepted = records.len();
+    for (index, record) in records.iter().enumerate() {
+        answer = answer.advanced(table, *record);
+        if answer.number() != 0 {
+            accepted = index;
+            break;
+        }
+    }
+    line.number(answer.number());
+    line.number(answer.rule());
+    line.number(accepted);
+    line.number(answer.excess());
+    answer.print_kept(line);
 }
 
 // The variables of type BOOL.
@@ -211,26 +227,13 @@ fn times(v: Variables) -> [u32; 34] {
     ]
 }
 
-fn print_flags(writer: &mut impl Write, flags: &[bool; 64]) {
-    let mut bytes = [0u8; 64];
-    for (byte, flag) in bytes.iter_mut().zip(flags) {
-        *byte = *flag as u8;
-    }
-    printing::bytes(writer, &bytes);
-}
-
-fn print_times(writer: &mut impl Write, times: &[u32; 34]) {
-    for time in times {
-        number32(writer, *time);
-    }
-}
-
-fn print_read(writer: &mut impl Write, read: Read) {
-    number32(writer, read.clock);
-    number8(writer, read.gear_box);
-    number8(writer, read.phase);
-    number8(writer, read.stage);
-    number32(writer, read.phase_time);
-    number32(writer, read.stage_time);
-    number32(writer, read.request_time);
+// The fields in the order of docs/CORPUS.md, which is not that of Read.
+fn print_read(line: &mut Line<impl Write>, read: Read) {
+    line.number(read.clock);
+    line.number(read.gear_box);
+    line.number(read.phase);
+    line.number(read.stage);
+    line.number(read.phase_time);
+    line.number(read.stage_time);
+    line.number(read.request_time);
 }

@@ -8,23 +8,24 @@ use limits::Table;
 use shift::{Answer, State};
 use verdict::Verdict;
 
-// The answer to a record's four bytes on any state and table: 4 with the rule, then 5, 6, 7 and so on.
+// The answer to a record's four bytes on any state and table: 4 with the rule, then 5, 6, 7 and so on. They are four numbers, as
+// munasirel_advance is called.
 pub fn advanced(state: State, table: Table, code: u8, middle: u8, low: u8, high: u8) -> Answer
     ensures { result ≡ advanced_on table state code middle low high }
 {
     // A block of one record, written out: a function that both calls for C share would not be laid into them (docs/DECISIONS.md).
     let record: [u8; 4] = [code, middle, low, high];
-    let broken = table.broken_rule();
-    if broken != 0 {
+    if let Err(broken) = table.admit() {
         return Answer {
             number: 4,
-            rule: broken,
+            rule: broken.number(),
             excess: 0,
             state,
         };
     }
     let verdict = verdict::judge_records(state, table, &record);
     let state = verdict.state;
+    // Field by field: an answer is no verdict, which has an index besides.
     Answer {
         number: verdict.number,
         rule: verdict.rule,
@@ -38,8 +39,7 @@ pub fn advanced(state: State, table: Table, code: u8, middle: u8, low: u8, high:
 pub fn advanced_block(state: State, table: Table, records: &[u8]) -> Verdict
     ensures { result ≡ block_on table state records.now }
 {
-    let rule = table.broken_rule();
-    if rule != 0 {
+    if let Err(rule) = table.admit() {
         if records.len() < 4 {
             return Verdict {
                 number: 0,
@@ -51,7 +51,7 @@ pub fn advanced_block(state: State, table: Table, records: &[u8]) -> Verdict
         }
         return Verdict {
             number: 4,
-            rule,
+            rule: rule.number(),
             index: 0,
             excess: 0,
             state,

@@ -1,59 +1,33 @@
 // Reading to the end of a reader, in pieces of any size.
 #![tactic(auto)]
 
-ghost use Rattle.std.specs.Prelude.{◌≡◌, ◌+◌, ◌≤◌, ◌<◌, false, take, drop, length};
+ghost use Rattle.std.specs.Prelude.{◌<◌, ◌≤◌, take, length, IfOk};
 ghost use Rattle.std.specs.Io.KnownBytes.{Consumes, IsAtEnd};
+ghost use Rattle.input.specs.Counts.{read_count};
 
 use std::io::Read;
 
-// How many bytes were read, and whether a read failed.
-#[derive(Clone, Copy)]
-pub struct Input {
-    pub failed: bool,
+// A read failed; how many bytes were read before it.
+#[derive(Clone, Copy, Debug, PartialEq, Eq)]
+pub struct ReadFailed {
     pub length: usize,
 }
 
-// Reads until the buffer is full, the input ends or a read fails. What is said of the bytes holds of a reader whose bytes are known.
-pub fn read_all<R: Read>(reader: &mut R, buffer: &mut [u8]) -> Input
-    ensures within { result.length ≤ length buffer.new }
-    ensures bytes { Consumes (R.remaining reader.old) (R.remaining reader.new) (take result.length buffer.new) }
-    ensures end { result.failed ≡ false → result.length < length buffer.new → IsAtEnd (R.remaining reader.new) }
+// Reads until the buffer is full, the input ends or a read fails, and answers how many bytes were read. What is said of the bytes
+// holds of a reader whose bytes are known.
+pub fn read_all<R: Read>(reader: &mut R, buffer: &mut [u8]) -> Result<usize, ReadFailed>
+    ensures within { read_count result ≤ length buffer.new }
+    ensures bytes { Consumes (R.remaining reader.old) (R.remaining reader.new) (take (read_count result) buffer.new) }
+    ensures end { IfOk result (λ count. count < length buffer.new → IsAtEnd (R.remaining reader.new)) }
 {
+    // It goes on by what a read gives, which no range counts; `read_exact` does not say how many bytes came before the input ended.
     let mut done: usize = 0;
     while done < buffer.len() {
-        let piece = read_some(reader, buffer, done);
-        let failed = piece.failed;
-        let count = piece.length;
-        if count == 0 {
-            return Input {
-                failed,
-                length: done,
-            };
+        match reader.read(&mut buffer[done..]) {
+            Ok(0) => break,
+            Ok(count) => done += count,
+            Err(_) => return Err(ReadFailed { length: done }),
         }
-        done += count;
     }
-    Input {
-        failed: false,
-        length: done,
-    }
-}
-
-// One read into the buffer behind the bytes that are there; none are read at the end of the input and where it fails.
-fn read_some<R: Read>(reader: &mut R, buffer: &mut [u8], done: usize) -> Input
-    requires { done ≤ length buffer.old }
-    ensures within { done + result.length ≤ length buffer.new }
-    ensures kept { take done buffer.new ≡ take done buffer.old }
-    ensures bytes { Consumes (R.remaining reader.old) (R.remaining reader.new) (take result.length (drop done buffer.new)) }
-    ensures end { result.failed ≡ false → result.length ≡ 0 → done < length buffer.new → IsAtEnd (R.remaining reader.new) }
-{
-    match reader.read(&mut buffer[done..]) {
-        Ok(length) => Input {
-            failed: false,
-            length,
-        },
-        Err(_) => Input {
-            failed: true,
-            length: 0,
-        },
-    }
+    Ok(done)
 }

@@ -15,6 +15,9 @@ use Rattle.limits.proofs.entry_at.Reads as entry_at_reads
 use Rattle.limits.proofs.sum.Reads as sum_reads
 use Rattle.limits.proofs.waits.Reads as waits_reads
 use Rattle.limits.proofs.wide.Reads as wide_reads
+use Rattle.limits.proofs.NumberLaws.{same_answer}
+use Rattle.limits.proofs.Table.admit.Reads as admit_reads
+use Rattle.limits.proofs.Rule.number.Reads as number_reads
 
 pub old_default : Determined old_default_reads.Post
 old_default κs a x y at at' p q = p ∙ sym q
@@ -30,6 +33,12 @@ is_undelayed κs a x y at at' p q = p ∙ sym q
 
 pub broken_rule_lem : Determined broken_rule_reads.Post
 broken_rule_lem κs a x y at at' p q = p ∙ sym q
+
+pub admit : Determined admit_reads.Post
+admit κs a x y at at' p q = same_answer x y (p ∙ sym q)
+
+pub number : Determined number_reads.Post
+number κs a x y at at' p q = p ∙ sym q
 
 pub of : Determined of_reads.Post
 of κs a x y at at' p q = p ∙ sym q
@@ -49,8 +58,8 @@ waits κs a x y at at' p q = p ∙ sym q
 pub both_ways : Determined both_ways_reads.Post
 both_ways κs a x y at at' p q = p.0 ∙ sym q.0
 
-pub wide : Determined wide_reads.Post
-wide κs a x y at at' p q = p.0 ∙ sym q.0
-
 pub sum : Determined sum_reads.Post
 sum κs a x y at at' p q = p.0 ∙ sym q.0
+
+pub wide : Determined wide_reads.Post
+wide κs a x y at at' p q = p.0 ∙ sym q.0

@@ -1,9 +1,11 @@
 -- Document 01, "The limit table": the rules of admission, with document 02's rule 16, and the number of the first that a table
 -- breaks.
 -- Assumes nothing.
-use Rattle.std.specs.Prelude.{Bool, true, ◌&&◌, ◌||◌, List, [], ◌∷◌, ◌++◌, ℕ, ◌+◌, ◌*◌, leb, ltb}
+use Rattle.std.specs.Prelude.{Bool, true, ◌&&◌, ◌||◌, List, [], ◌∷◌, ◌++◌, ℕ, ◌+◌, ◌*◌, leb, ltb, Result, Ok, Err}
 use Rattle.checks.specs.Checks.{first, numbered}
 use Rattle.limits.specs.declared.Table.{Table}
+use Rattle.limits.specs.declared.Rule.{Rule}
+use Rattle.limits.specs.declared.Rule.TheVariants.{Set, SyncEx, ZeroEx, Open, Close, SetGear, Release, SyncDe, ZeroDe, SyncDl, ZeroDl, RouteF, RouteN, RouteG1, RouteG2, Delays}
 use Rattle.limits.specs.Limits.{limits, undelayed, sum_f, sum_n, sum_g1, sum_g2}
 
 -- rule 1: each of the first eighteen entries is at least 1
@@ -67,3 +69,26 @@ rules t = set_rule t ++ (engine_rules t ++ (device_rules t ++ (ask_rules t ++ (r
 -- 0: the table is admitted; else the number of the first broken rule
 abbrev pub broken_rule : Table → ℕ
 broken_rule t = first (numbered 1 (rules t))
+
+-- the number of each rule, and what admitting a table answers as that number
+abbrev pub number_of : Rule → ℕ
+number_of Set = 1
+number_of SyncEx = 2
+number_of ZeroEx = 3
+number_of Open = 4
+number_of Close = 5
+number_of SetGear = 6
+number_of Release = 7
+number_of SyncDe = 8
+number_of ZeroDe = 9
+number_of SyncDl = 10
+number_of ZeroDl = 11
+number_of RouteF = 12
+number_of RouteN = 13
+number_of RouteG1 = 14
+number_of RouteG2 = 15
+number_of Delays = 16
+
+abbrev pub broken_in : Result (Unit {0}) Rule → ℕ
+broken_in (Ok u) = 0
+broken_in (Err r) = number_of r

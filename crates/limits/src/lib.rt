@@ -2,14 +2,45 @@
 // house's table, and the first rule that a table breaks.
 #![tactic(auto)]
 
-ghost use Rattle.std.specs.Prelude.{◌≡◌, false, ◌+◌, ◌*◌, ◌≤◌};
+ghost use Rattle.std.specs.Prelude.{◌≡◌, false, ◌+◌, ◌*◌, ◌≤◌, nat_le};
+ghost use Rattle.std.specs.List.{list_all};
 ghost use Rattle.checks.specs.Checks.{first, numbered};
 ghost use Rattle.limits.specs.Limits.{old_default, new_default, house, limits, entries, undelayed, entry, table_of};
-ghost use Rattle.limits.specs.Rules.{at_least1, engine_rules, device_rules, ask_rules, route_rules, waits, delay_rules, broken_rule};
+ghost use Rattle.limits.specs.Rules.{at_least1, engine_rules, device_rules, ask_rules, route_rules, waits, delay_rules, number_of, broken_in, broken_rule};
+
+// The rules of admission under document 01's numbers: the first eighteen entries set, then each by the limit that it asks for.
+#[derive(Clone, Copy, Debug, PartialEq, Eq)]
+pub enum Rule {
+    Set = 1,
+    SyncEx = 2,
+    ZeroEx = 3,
+    Open = 4,
+    Close = 5,
+    SetGear = 6,
+    Release = 7,
+    SyncDe = 8,
+    ZeroDe = 9,
+    SyncDl = 10,
+    ZeroDl = 11,
+    RouteF = 12,
+    RouteN = 13,
+    RouteG1 = 14,
+    RouteG2 = 15,
+    Delays = 16,
+}
+
+impl Rule {
+    // Its number: a method, since `u8::from` would not say at a call which number is meant.
+    pub fn number(self) -> u8
+        ensures { result ≡ number_of self }
+    {
+        self as u8
+    }
+}
 
 // The limits under the manual's names, in milliseconds, in the order of their entry numbers 0 to 21.
 #[repr(C)]
-#[derive(Clone, Copy)]
+#[derive(Clone, Copy, Debug, PartialEq, Eq)]
 pub struct Table {
     pub channel_dl: u16,
     pub engine_sync_dl: u16,
@@ -70,50 +101,76 @@ impl Table {
     pub fn new_default() -> Table
         ensures { result ≡ new_default }
     {
-        let mut table = Table::old_default();
-        table.channel_dl = 10;
-        table
+        Table {
+            channel_dl: 10,
+            ..Table::old_default()
+        }
     }
 
     // The house's table for the clutch unit that reports before its plates part: the new default with delays.
     pub fn house() -> Table
         ensures { result ≡ house }
     {
-        let mut table = Table::new_default();
-        table.clutch_open_de = 20;
-        table.error_clutch_open_de = 60;
-        table.clutch_close_de = 20;
-        table.error_clutch_close_de = 60;
-        table
+        Table {
+            clutch_open_de: 20,
+            error_clutch_open_de: 60,
+            clutch_close_de: 20,
+            error_clutch_close_de: 60,
+            ..Table::new_default()
+        }
     }
 
-    // The table of twenty-two entries.
+    // The table of twenty-two entries. No `From`, here and in `entries`: docs/PROMISES.md names the two.
     pub fn of(entries: [u16; 22]) -> Table
         ensures { result ≡ table_of entries }
     {
+        let [
+            channel_dl,
+            engine_sync_dl,
+            engine_zero_dl,
+            clutch_open_dl,
+            clutch_close_dl,
+            gear_set_dl,
+            gear_release_dl,
+            sync_ex,
+            zero_ex,
+            sync_dl,
+            zero_dl,
+            sync_de,
+            zero_de,
+            open_clutch_dl,
+            set_gear_dl,
+            release_dl,
+            close_clutch_dl,
+            change_dl,
+            clutch_open_de,
+            error_clutch_open_de,
+            clutch_close_de,
+            error_clutch_close_de,
+        ] = entries;
         Table {
-            channel_dl: entries[0],
-            engine_sync_dl: entries[1],
-            engine_zero_dl: entries[2],
-            clutch_open_dl: entries[3],
-            clutch_close_dl: entries[4],
-            gear_set_dl: entries[5],
-            gear_release_dl: entries[6],
-            sync_ex: entries[7],
-            zero_ex: entries[8],
-            sync_dl: entries[9],
-            zero_dl: entries[10],
-            sync_de: entries[11],
-            zero_de: entries[12],
-            open_clutch_dl: entries[13],
-            set_gear_dl: entries[14],
-            release_dl: entries[15],
-            close_clutch_dl: entries[16],
-            change_dl: entries[17],
-            clutch_open_de: entries[18],
-            error_clutch_open_de: entries[19],
-            clutch_close_de: entries[20],
-            error_clutch_close_de: entries[21],
+            channel_dl,
+            engine_sync_dl,
+            engine_zero_dl,
+            clutch_open_dl,
+            clutch_close_dl,
+            gear_set_dl,
+            gear_release_dl,
+            sync_ex,
+            zero_ex,
+            sync_dl,
+            zero_dl,
+            sync_de,
+            zero_de,
+            open_clutch_dl,
+            set_gear_dl,
+            release_dl,
+            close_clutch_dl,
+            change_dl,
+            clutch_open_de,
+            error_clutch_open_de,
+            clutch_close_de,
+            error_clutch_close_de,
         }
     }
 
@@ -147,134 +204,133 @@ impl Table {
         ]
     }
 
-    // The number of the first rule that the table breaks, 0 where it is admitted.
+    // The number of the first rule that the table breaks, 0 where it is admitted: munasirel_admit hands it to C, and `broken_rule_lem`
+    // speaks of it.
     pub fn broken_rule(self) -> u8
         ensures { result ≡ broken_rule self }
     {
+        match self.admit() {
+            Ok(()) => 0,
+            Err(rule) => rule.number(),
+        }
+    }
+
+    // Admits the table, or says which rule is the first that it breaks.
+    pub fn admit(self) -> Result<(), Rule>
+        ensures { broken_in result ≡ broken_rule self }
+    {
         if !self.is_set() {
-            return 1;
+            return Err(Rule::Set);
         }
-        let number = self.broken_engine_rule();
-        if number != 0 {
-            return number;
-        }
-        let number = self.broken_device_rule();
-        if number != 0 {
-            return number;
-        }
-        let number = self.broken_ask_rule();
-        if number != 0 {
-            return number;
-        }
-        let number = self.broken_route_rule();
-        if number != 0 {
-            return number;
-        }
+        self.engine_rules()?;
+        self.device_rules()?;
+        self.ask_rules()?;
+        self.route_rules()?;
         // Most tables have no delays; asked here, it spares them a call.
         if self.is_undelayed() {
-            return 0;
+            return Ok(());
         }
-        self.broken_delay_rule()
+        self.delay_rule()
     }
 
-    // Rules 2 and 3, or 0.
-    fn broken_engine_rule(self) -> u8
-        ensures { result ≡ first (numbered 2 (engine_rules self)) }
+    // Rules 2 and 3.
+    fn engine_rules(self) -> Result<(), Rule>
+        ensures { broken_in result ≡ first (numbered 2 (engine_rules self)) }
     {
         let ch = self.channel_dl;
-        if wide(self.sync_ex) < both_ways(ch, self.engine_sync_dl) {
-            return 2;
+        if u32::from(self.sync_ex) < both_ways(ch, self.engine_sync_dl) {
+            return Err(Rule::SyncEx);
         }
-        if wide(self.zero_ex) < both_ways(ch, self.engine_zero_dl) {
-            return 3;
+        if u32::from(self.zero_ex) < both_ways(ch, self.engine_zero_dl) {
+            return Err(Rule::ZeroEx);
         }
-        0
+        Ok(())
     }
 
-    // Rules 4 to 7, or 0.
-    fn broken_device_rule(self) -> u8
-        ensures { result ≡ first (numbered 4 (device_rules self)) }
+    // Rules 4 to 7.
+    fn device_rules(self) -> Result<(), Rule>
+        ensures { broken_in result ≡ first (numbered 4 (device_rules self)) }
     {
         let ch = self.channel_dl;
-        if wide(self.open_clutch_dl) <= both_ways(ch, self.clutch_open_dl) {
-            return 4;
+        if u32::from(self.open_clutch_dl) <= both_ways(ch, self.clutch_open_dl) {
+            return Err(Rule::Open);
         }
-        if wide(self.close_clutch_dl) <= both_ways(ch, self.clutch_close_dl) {
-            return 5;
+        if u32::from(self.close_clutch_dl) <= both_ways(ch, self.clutch_close_dl) {
+            return Err(Rule::Close);
         }
-        if wide(self.set_gear_dl) <= both_ways(ch, self.gear_set_dl) {
-            return 6;
+        if u32::from(self.set_gear_dl) <= both_ways(ch, self.gear_set_dl) {
+            return Err(Rule::SetGear);
         }
-        if wide(self.release_dl) <= both_ways(ch, self.gear_release_dl) {
-            return 7;
+        if u32::from(self.release_dl) <= both_ways(ch, self.gear_release_dl) {
+            return Err(Rule::Release);
         }
-        0
+        Ok(())
     }
 
-    // Rules 8 to 11, or 0.
-    fn broken_ask_rule(self) -> u8
-        ensures { result ≡ first (numbered 8 (ask_rules self)) }
+    // Rules 8 to 11.
+    fn ask_rules(self) -> Result<(), Rule>
+        ensures { broken_in result ≡ first (numbered 8 (ask_rules self)) }
     {
         if self.sync_de <= self.sync_ex {
-            return 8;
+            return Err(Rule::SyncDe);
         }
         if self.zero_de <= self.zero_ex {
-            return 9;
+            return Err(Rule::ZeroDe);
         }
         if self.sync_dl < self.sync_de {
-            return 10;
+            return Err(Rule::SyncDl);
         }
         if self.zero_dl < self.zero_de {
-            return 11;
+            return Err(Rule::ZeroDl);
         }
-        0
+        Ok(())
     }
 
-    // Rules 12 to 15, or 0.
-    fn broken_route_rule(self) -> u8
-        ensures { result ≡ first (numbered 12 (route_rules self)) }
+    // Rules 12 to 15.
+    fn route_rules(self) -> Result<(), Rule>
+        ensures { broken_in result ≡ first (numbered 12 (route_rules self)) }
     {
-        let change = wide(self.change_dl);
+        let change = u32::from(self.change_dl);
         let clutch = sum(self.open_clutch_dl, self.close_clutch_dl);
         let f = sum(self.sync_dl, self.set_gear_dl) + clutch;
         let n = sum(self.zero_dl, self.release_dl) + clutch;
         let g1 = sum(self.zero_ex, self.release_dl) + f;
-        let g2 = n + wide(self.set_gear_dl);
+        let g2 = n + u32::from(self.set_gear_dl);
         if change < f {
-            return 12;
+            return Err(Rule::RouteF);
         }
         if change < n {
-            return 13;
+            return Err(Rule::RouteN);
         }
         if change < g1 {
-            return 14;
+            return Err(Rule::RouteG1);
         }
         if change < g2 {
-            return 15;
+            return Err(Rule::RouteG2);
         }
-        0
+        Ok(())
     }
 
-    // Rule 16 of a table with delays, or 0.
-    fn broken_delay_rule(self) -> u8
+    // Rule 16 of a table with delays.
+    fn delay_rule(self) -> Result<(), Rule>
         requires { undelayed self ≡ false }
-        ensures { result ≡ first (numbered 16 (delay_rules self)) }
+        ensures { broken_in result ≡ first (numbered 16 (delay_rules self)) }
     {
-        if !waits(
+        let opens = waits(
             self.clutch_open_de,
             self.error_clutch_open_de,
             self.clutch_open_dl,
-        ) {
-            return 16;
-        }
-        if !waits(
+        );
+        let closes = waits(
             self.clutch_close_de,
             self.error_clutch_close_de,
             self.clutch_close_dl,
-        ) {
-            return 16;
+        );
+        if opens & closes {
+            Ok(())
+        } else {
+            Err(Rule::Delays)
         }
-        0
     }
 
     // All four delays are 0.
@@ -290,35 +346,22 @@ impl Table {
     pub fn is_set(self) -> bool
         ensures { result ≡ at_least1 (limits self) }
     {
-        (1 <= self.channel_dl)
-            & (1 <= self.engine_sync_dl)
-            & (1 <= self.engine_zero_dl)
-            & (1 <= self.clutch_open_dl)
-            & (1 <= self.clutch_close_dl)
-            & (1 <= self.gear_set_dl)
-            & (1 <= self.gear_release_dl)
-            & (1 <= self.sync_ex)
-            & (1 <= self.zero_ex)
-            & (1 <= self.sync_dl)
-            & (1 <= self.zero_dl)
-            & (1 <= self.sync_de)
-            & (1 <= self.zero_de)
-            & (1 <= self.open_clutch_dl)
-            & (1 <= self.set_gear_dl)
-            & (1 <= self.release_dl)
-            & (1 <= self.close_clutch_dl)
-            & (1 <= self.change_dl)
+        are_set(&self.entries()[..18])
     }
 }
 
-// The entry of this number, 0 where there is none.
+// Each of these is at least 1.
+fn are_set(limits: &[u16]) -> bool
+    ensures { result ≡ list_all (λ x. nat_le 1 x) limits.now }
+{
+    limits.iter().all(|&limit| 1 <= limit)
+}
+
+// The entry of this number, 0 where there is none, as the definition entry has it.
 pub fn entry_at(entries: &[u16; 22], number: usize) -> u16
     ensures { result ≡ entry (table_of entries.now) number }
 {
-    if number < 22 {
-        return entries[number];
-    }
-    0
+    entries.get(number).copied().unwrap_or(0)
 }
 
 // A clutch order waits: its plain delay is at least 1, and its error delay beyond that and within the device's limit.
@@ -332,17 +375,19 @@ pub fn waits(plain: u16, error: u16, device: u16) -> bool
 pub fn both_ways(ch: u16, limit: u16) -> u32
     ensures { (result ≡ 2 * ch + limit) × (result ≤ 196605) }
 {
-    2 * (ch as u32) + (limit as u32)
+    2 * u32::from(ch) + u32::from(limit)
 }
 
+// A limit in 32 bits.
 pub fn wide(x: u16) -> u32
     ensures { (result ≡ x) × (result ≤ 65535) }
 {
-    x as u32
+    u32::from(x)
 }
 
+// Two limits one after the other.
 pub fn sum(a: u16, b: u16) -> u32
     ensures { (result ≡ a + b) × (result ≤ 131070) }
 {
-    a as u32 + (b as u32)
+    u32::from(a) + u32::from(b)
 }

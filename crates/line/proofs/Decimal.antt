@@ -1,56 +1,37 @@
--- The decimal digits of a number: those that io's `decimal` leaves, read back, and the fewest.
+-- The decimal digits of a number: those that `{}` prints, read back, and the fewest.
 -- Assumes nothing.
 use Prim.Native.Nat.{ℕ, zero, suc, ◌+◌, ◌-◌, ◌*◌, ◌/◌, ◌%◌, ◌^◌, ◌≤◌, ◌<◌}
 use mathlib.Core.Path.{◌≡◌, refl, ap, ◌∙◌}
 use mathlib.Core.Bool.{true, false}
 use mathlib.Core.List.{List, [], ◌∷◌, ◌++◌}
-use native.Mathlib.Nat.{pow-suc, one-le-pow, pow-le-pow_right}
+use native.Mathlib.Nat.{pow-suc}
 use native.Mathlib.Numerals.{add-one}
 use native.Mathlib.Omega.{arith}
-use lib.Dec.{leb, ltb}
+use lib.Dec.{ltb}
 use lib.ListN.{length, length-append}
-use borrow.Author.Tests.{lt-ltb, le-ltb, leb-true, leb-false, ltb-true, ltb-false}
+use borrow.Author.Tests.{ltb-true, ltb-false}
 use Rattle.checks.proofs.Tests.{case}
-use Rattle.io.specs.Digits.{hex_digit_ascii, last_digits, IsDigitCount}
+use Rattle.std.proofs.lemmas.Fmt.{decimal_digit, decimal_step}
+use Rattle.std.specs.Fmt.{decimal}
+use Rattle.io.specs.Digits.{IsDigitCount}
 use Rattle.line.specs.Decimals.{spelled, decimal_of}
 
--- a digit below 10
-figure : (n : ℕ) → hex_digit_ascii (n % 10) ≡ 48 + n % 10
-figure n = let h : n % 10 < 10 = omega arith in rw (lt-ltb (n % 10) 10 h)
-
-spell : (m n k : ℕ) → n < m → IsDigitCount 10 1 n k → last_digits 10 k n ≡ spelled m n
-spell zero n k h f = absurd (omega arith)
-spell (suc m) n zero h f = absurd (omega arith)
-spell (suc m) n (suc zero) h f =
-    let below : n < 10 = f.1 in
-    let same : n % 10 ≡ n = omega arith in
-    rw (lt-ltb n 10 below, figure n, same)
-spell (suc m) n (suc (suc k)) h f =
-    let power : 10 ^ suc k ≡ 10 ^ k * 10 = pow-suc 10 k in
-    let power' : 10 ^ suc (suc k) ≡ 10 ^ suc k * 10 = pow-suc 10 (suc k) in
-    let one : 1 ≤ 10 ^ k = one-le-pow k 10 (omega arith) in
-    let first : suc (suc k) - 1 ≡ suc k = omega arith in
-    let first' : suc k - 1 ≡ k = omega arith in
-    let least : 10 ^ suc k ≤ n = rw first at (f.2 (omega arith)) in
-    let above : 10 ≤ n = omega arith in
-    let fits : n < 10 ^ suc (suc k) = f.1 in
-    rw (le-ltb n 10 above, figure n, spell m (n / 10) (suc k) (omega arith) (omega arith, omega arith, λ _. rw first' (omega arith)))
-
--- the fewest digits that hold a number are those of `decimal_of`, however many these are
-pub decimal : (n k : ℕ) → IsDigitCount 10 1 n k → last_digits 10 k n ≡ decimal_of n
-unfolding decimal_of
-decimal n k f = spell (suc n) n k (omega arith) f
-
--- a u64 has at most 20 digits
-pub few : (n k : ℕ) → n < 2 ^ 64 → IsDigitCount 10 1 n k → k ≤ 20
-few n k h f = case (leb k 20) (leb-true k 20) more
+spell : (m n : ℕ) → n < m → n < 2 ^ 64 → decimal n ≡ spelled m n
+spell zero n h f = absurd (omega arith)
+spell (suc m) n h f = case (ltb n 10) one (more (spell m (n / 10)))
   where
-    more : leb k 20 ≡ false → k ≤ 20
-    more e =
-        let over : 20 < k = leb-false k 20 e in
-        let least : 10 ^ (k - 1) ≤ n = f.2 (omega arith) in
-        let power : 10 ^ 20 ≤ 10 ^ (k - 1) = pow-le-pow_right (omega arith) {i = 20} {j = k - 1} (omega arith) in
-        omega arith
+    one : ltb n 10 ≡ true → decimal n ≡ spelled (suc m) n
+    one e = rw e (decimal_digit n (ltb-true n 10 e))
+
+    more : (n / 10 < m → n / 10 < 2 ^ 64 → decimal (n / 10) ≡ spelled m (n / 10)) → ltb n 10 ≡ false → decimal n ≡ spelled (suc m) n
+    more rest e =
+        let above : 10 ≤ n = ltb-false n 10 e in
+        rw (e, decimal_step n above f, rest (omega arith) (omega arith))
+
+-- what `{}` prints of a number of 64 bits are the digits of `decimal_of`
+pub printed : (n : ℕ) → n < 2 ^ 64 → decimal n ≡ decimal_of n
+unfolding decimal_of
+printed n f = spell (suc n) n (omega arith) f
 
 -- the number that digits make after those that made m
 abbrev pub read_from : ℕ → List ℕ → ℕ

@@ -10,7 +10,7 @@ use lib.ListN.{length}
 use borrow.Author.Tests.{leb-true, leb-false}
 use Rattle.checks.proofs.Tests.{case}
 use Rattle.line.specs.Lines.{line_of}
-use Rattle.line.specs.Laying.{laid, after}
+use Rattle.line.specs.Laying.{laid_in, laid, after}
 use Rattle.line.specs.Refusals.{LineAnswers}
 use Rattle.line.proofs.lay.Reads as lay_reads
 
@@ -26,5 +26,5 @@ line_answers text out =
 
 pub lay :
     (κs : _) (a : _) (r : _) (at : _) → lay_reads.Post κs a r at
-    → LineAnswers (line_of a.0) a.1.0.now r.number r.length at.1.0.now
+    → LineAnswers (line_of a.0) a.1.0.now (laid_in r).number (laid_in r).length at.1.0.now
 lay κs a r at p = rw (p.0, p.1) (line_answers (line_of a.0) a.1.0.now)

@@ -2,40 +2,38 @@
 #![tactic(auto)]
 
 use limits::Table;
-use printing::{number, number8, number16, number32, number64};
+use printing::Line;
 use shift::State;
 use shiftlist::{Fetched, Listed};
 use std::io::Write;
 
 // The list of a file.
 pub fn build(writer: &mut impl Write, file: &[u8], out: &mut [u8]) {
-    print_listed(writer, shiftlist::build(file, out));
-    printing::bytes(writer, out);
+    let mut line = Line::to(writer);
+    print_listed(&mut line, shiftlist::build(file, out));
+    line.bytes(out);
 }
 
-fn print_listed(writer: &mut impl Write, listed: Listed) {
-    number8(writer, listed.number);
-    number8(writer, listed.rule);
-    number(writer, listed.index);
-    number64(writer, listed.excess);
-    number(writer, listed.length);
+fn print_listed(line: &mut Line<impl Write>, listed: Listed) {
+    line.number(listed.number);
+    line.number(listed.rule);
+    line.number(listed.index);
+    line.number(listed.excess);
+    line.number(listed.length);
 }
 
 // The entry of a list with this number.
 pub fn fetch(writer: &mut impl Write, list: &[u8], number: usize) {
-    print_fetched(writer, shiftlist::fetch(list, number));
-}
-
-fn print_fetched(writer: &mut impl Write, fetched: Fetched) {
-    let shift = fetched.shift;
-    number8(writer, fetched.number);
-    number16(writer, shift.first);
-    number16(writer, shift.last);
-    number8(writer, shift.kind);
-    number8(writer, shift.route);
-    number8(writer, shift.end);
-    number32(writer, shift.request_time);
-    number32(writer, shift.age);
+    let mut line = Line::to(writer);
+    let Fetched { number, shift } = shiftlist::fetch(list, number);
+    line.number(number);
+    line.number(shift.first);
+    line.number(shift.last);
+    line.number(shift.kind);
+    line.number(shift.route);
+    line.number(shift.end);
+    line.number(shift.request_time);
+    line.number(shift.age);
 }
 
 // A list that is extended by records, from a state and a count of records under a table.
@@ -48,9 +46,10 @@ pub fn extend(
     table: Table,
     records: &[u8],
 ) {
+    let mut line = Line::to(writer);
     print_listed(
-        writer,
+        &mut line,
         shiftlist_extend::extend(list, held, state, count, table, records),
     );
-    printing::bytes(writer, list);
+    line.bytes(list);
 }

@@ -7,7 +7,9 @@ use native.Mathlib.Decide.{dec_lt}
 use native.Mathlib.Omega.{arith}
 use lib.Dec.{leb, leb-zero, eqb}
 use borrow.Author.Tests.{lt-leb, le-leb, ne_eqb, eq-eqb}
-use Rattle.manual.specs.Ticks.{past_else}
+use Rattle.std.specs.Prelude.{List, [], ◌∷◌, not, ◌==◌}
+use Rattle.std.specs.List.{find}
+use Rattle.manual.specs.Ticks.{past_else, first_past, passed}
 
 pub within : (x y : ℕ) → leb x y ≡ eqb (x - y) 0
 within x y =
@@ -46,3 +48,10 @@ pub before : (x y : ℕ) → ¬ (x ≡ 0) → x ≡ past_else x y
 unfolding past_else
 before zero y h = absurd (h refl)
 before (suc x) y h = refl
+
+-- ---- of some guards the first that is passed, as it is looked for
+pub is_found : (xs : List ℕ) → find (λ x. not (x == 0)) xs ≡ passed (first_past xs)
+unfolding past_else
+is_found [] = refl
+is_found (zero ∷ xs) = is_found xs
+is_found (suc x ∷ xs) = rw (ne_eqb (suc x) 0 (λ e. omega arith))

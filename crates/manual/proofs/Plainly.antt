@@ -6,6 +6,7 @@ use mathlib.Core.List.{List, [], ◌∷◌, ◌++◌}
 use Prim.Native.Nat.{ℕ, ◌+◌, ◌-◌}
 use native.Mathlib.Omega.{arith}
 use lib.Dec.{T, leb, leb-zero, leb→le}
+use Rattle.std.specs.Prelude.{Ok}
 use Rattle.checks.specs.Checks.{Check, ◌!◌, first}
 use Rattle.checks.proofs.Checks.{within, at_most}
 use Rattle.checks.proofs.Tests.{left, right}
@@ -14,7 +15,6 @@ use Rattle.phases.specs.Phases.{unfinished, engine, clutch_order}
 use Rattle.shift.specs.declared.State.{State}
 use Rattle.shift.specs.declared.Step.{Step}
 use Rattle.shift.specs.declared.Step.TheVariants.{FromNeutral, GearToGear, ToNeutral, Deliver, DeviceGood, DeviceFailed, EngineWaits, Take, AskClutch, RaiseError, Finish, Tick, Reset}
-use Rattle.shift.specs.declared.Reading.TheVariants.{Means}
 use Rattle.shift.specs.States.{working, good, waiting}
 use Rattle.shift.specs.Steps.{allowed, shifts_in, in_engine, in_device, in_tick_time, good_bound, failed_bound, take_bound, ask_bound, stage_bound, phase_bound, limited}
 use Rattle.shift.specs.Excess.{excess_by}
@@ -144,7 +144,7 @@ module _ (t : Table) (s : State) (early now : ℕ) where
   timed cs k b x y h e =
       behind cs ((leb (cond b x 0) y ! k) ∷ []) h ∙ ap (where_held cs) (carries carried k 0 b x y e ∙ alone (past_by b x y))
 
-pub over : (t : Table) (s : State) (x : Step) → excess t s (Means x) (guard t s (Means x)) ≡ plain_over t s x
+pub over : (t : Table) (s : State) (x : Step) → excess t s (Ok x) (guard t s (Ok x)) ≡ plain_over t s x
 over t s FromNeutral = quiet t s 0 s.clock (listed s ++ allowed t s FromNeutral) tt
 over t s GearToGear = quiet t s 0 s.clock (listed s ++ allowed t s GearToGear) tt
 over t s ToNeutral = quiet t s 0 s.clock (listed s ++ allowed t s ToNeutral) tt

@@ -34,6 +34,10 @@ timed excess guards actions v = record {
 abbrev pub event : List Check → List (Variables → Variables) → Variables → Event
 event = timed 0
 
+-- an event whose guards are all on flags: these hold or not, and it leads to these variables
+abbrev pub free : Bool → Variables → Event
+free enabled after = record { enabled = enabled; number = 0; excess = 0; after = after }
+
 -- the number of what an event answers: 7 where it is not enabled
 abbrev pub answered : Event → ℕ
 answered e = cond e.enabled e.number 7

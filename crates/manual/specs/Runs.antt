@@ -2,7 +2,7 @@
 -- Assumes nothing.
 use Rattle.std.specs.Prelude.{List, [], ◌∷◌, ℕ, zero, suc}
 use Rattle.limits.specs.declared.Table.{Table}
-use Rattle.shift.specs.declared.Reading.{Reading}
+use Rattle.shift.specs.Readings.{Reading}
 use Rattle.manual.specs.declared.Variables.{Variables}
 use Rattle.manual.specs.Answers.{number_of, excess_of, led_to}
 

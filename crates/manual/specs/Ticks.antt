@@ -1,10 +1,11 @@
 -- Machine m9: Tick_Tock, its guards in the manual's order and under its labels. What document 01 settles is marked on its line.
 -- Assumes nothing.
-use Rattle.std.specs.Prelude.{Bool, true, not, cond, ◌&&◌, List, [], ◌∷◌, ◌++◌, ℕ, zero, suc, ◌+◌, ◌-◌, eqb}
+use Rattle.std.specs.Prelude.{Bool, true, not, cond, ◌&&◌, List, [], ◌∷◌, ◌++◌, Option, None, Some, ℕ, zero, suc, ◌+◌, ◌-◌, eqb}
 use Rattle.checks.specs.Checks.{Check, ◌!◌, first}
 use Rattle.limits.specs.declared.Table.{Table}
 use Rattle.manual.specs.declared.Variables.{Variables}
 use Rattle.manual.specs.declared.Event.{Event}
+use Rattle.manual.specs.declared.Guard.{Guard}
 use Rattle.manual.specs.Variables.{pass}
 
 -- The guards are said by the milliseconds by which they are passed, 0 where they hold.
@@ -12,6 +13,10 @@ use Rattle.manual.specs.Variables.{pass}
 -- where these flags stand so, the time after the tick is at most a time + its limit
 unfoldable pub past : Bool → ℕ → ℕ → ℕ → ℕ
 past flags now time limit = cond flags (now - (time + limit)) 0
+
+-- the same of a guard in code
+abbrev pub past_at : ℕ → Guard → ℕ
+past_at now g = past g.flags now g.since g.limit
 
 -- grd2 to grd6: from neutral
 abbrev pub scenario1 : Table → Variables → ℕ → List ℕ
@@ -116,6 +121,11 @@ past_else (suc x) y = suc x
 abbrev pub first_past : List ℕ → ℕ
 first_past [] = 0
 first_past (x ∷ xs) = past_else x (first_past xs)
+
+-- the milliseconds by which one is passed, none where they are 0
+abbrev pub passed : ℕ → Option ℕ
+passed zero = None
+passed (suc x) = Some (suc x)
 
 -- grd2 to grd22, the limits of the phases
 abbrev pub phase_limits : Table → Variables → ℕ → List ℕ

@@ -1,14 +1,17 @@
 // Machine m9 of the manual: its variables under their own names, an event, and the comparisons that events share.
 #![tactic(auto)]
 
-ghost use Rattle.std.specs.Prelude.{◌≡◌, cond, ◌+◌, ◌-◌, leb};
+ghost use Rattle.std.specs.Prelude.{◌≡◌, cond, ◌+◌, ◌-◌, leb, map, not, ◌==◌};
+ghost use Rattle.std.specs.List.{find};
 ghost use Rattle.manual.specs.Variables.{initialisation};
-ghost use Rattle.manual.specs.Events.{or_else};
-ghost use Rattle.manual.specs.Ticks.{past, past_else};
+ghost use Rattle.manual.specs.Reset.{erred};
+ghost use Rattle.manual.specs.Events.{free, or_else, first_of};
+ghost use Rattle.manual.specs.Ticks.{past, past_at, past_else};
+ghost use Rattle.manual.specs.Answers.{accepted, refused};
 
 // The variables of machine m9, in the manual's order.
 #[repr(C)]
-#[derive(Clone, Copy)]
+#[derive(Clone, Copy, Default)]
 pub struct Variables {
     pub time: u32,
     pub RequestFromNeuT: u32,
@@ -111,7 +114,8 @@ pub struct Variables {
 }
 
 // What an event would do: whether its guards on flags hold, the number that its other guards refuse with or 0, the milliseconds by which
-// its guard on times fails or 0, and the variables after its actions.
+// its guard on times fails or 0, and the variables after its actions. The contract of each event's function gives all four, those of an
+// event that is not enabled too: the definitions of specs/ are in these fields, Events.antt's and Answers.antt's.
 #[derive(Clone, Copy)]
 pub struct Event {
     pub enabled: bool,
@@ -120,8 +124,16 @@ pub struct Event {
     pub after: Variables,
 }
 
+// A guard of Tick_Tock: where these flags stand so, the time after the tick is at most since + limit.
+#[derive(Clone, Copy)]
+pub struct Guard {
+    pub flags: bool,
+    pub since: u32,
+    pub limit: u16,
+}
+
 // 0 and the variables after a step, or the number that refuses it and the variables that were given; the rule is 0 except with 4, the
-// excess except with 9 to 13.
+// excess except with 9 to 13. The numbers are document 01's: munasirel_m9_advance hands them to C.
 #[repr(C)]
 #[derive(Clone, Copy)]
 pub struct Moved {
@@ -137,107 +149,37 @@ impl Variables {
         ensures { result ≡ initialisation }
     {
         Variables {
-            time: 0,
-            RequestFromNeuT: 0,
-            RequestNoNeuT: 0,
-            RequestToNeuT: 0,
             isNeu: true,
-            RequestFromNeu: false,
-            RequestNoNeu: false,
-            RequestToNeu: false,
-            FromNeu_SyncSpeed: false,
-            FromNeu_OpenClutch: false,
-            FromNeu_SetGear_NoClutch: false,
-            FromNeu_SetGear_Clutch: false,
-            FromNeu_CloseClutch: false,
-            Error_FromNeu_OpenClutch: false,
-            Error_FromNeu_SetGear_NoClutch: false,
-            Error_FromNeu_SetGear_Clutch: false,
-            Error_FromNeu_CloseClutch: false,
-            FromNeu_OpenClutchT: 0,
-            FromNeu_SyncSpeedT: 0,
-            FromNeu_SetGear_ClutchT: 0,
-            ToNeu_ZeroTorque: false,
-            ToNeu_OpenClutch: false,
-            Error_ToNeu_OpenClutch: false,
-            ToNeu_Release_NoClutch: false,
-            Error_ToNeu_Release_NoClutch: false,
-            ToNeu_Release_Clutch: false,
-            Error_ToNeu_Release_Clutch: false,
-            ToNeu_CloseClutch: false,
-            Error_ToNeu_CloseClutch: false,
-            ToNeu_ZeroTorqueT: 0,
-            ToNeu_OpenClutchT: 0,
-            ToNeu_Release_ClutchT: 0,
-            NoNeu_ZeroTorque: false,
-            NoNeu_Release_NoClutch: false,
-            NoNeu_OpenClutch_Releasing: false,
-            NoNeu_Release_Clutch: false,
-            NoNeu_SyncSpeed: false,
-            NoNeu_OpenClutch_Setting: false,
-            NoNeu_SetGear_NoClutch: false,
-            NoNeu_SetGear_ReleasingClutch: false,
-            NoNeu_SetGear_SettingClutch: false,
-            NoNeu_CloseClutch_Releasing: false,
-            NoNeu_CloseClutch_Setting: false,
-            Error_NoNeu_OpenClutch_Releasing: false,
-            Error_NoNeu_Release_Clutch: false,
-            Error_NoNeu_Release_NoClutch: false,
-            Error_NoNeu_OpenClutch_Setting: false,
-            Error_NoNeu_SetGear_NoClutch: false,
-            Error_NoNeu_SetGear_ReleasingClutch: false,
-            Error_NoNeu_SetGear_SettingClutch: false,
-            Error_NoNeu_CloseClutch_Releasing: false,
-            Error_NoNeu_CloseClutch_Setting: false,
-            NoNeu_ZeroTorqueT: 0,
-            NoNeu_Release_NoClutchT: 0,
-            NoNeu_OpenClutch_ReleasingT: 0,
-            NoNeu_Release_ClutchT: 0,
-            NoNeu_SetGear_ReleasingClutchT: 0,
-            NoNeu_SetGear_SettingClutchT: 0,
-            NoNeu_SyncSpeedT: 0,
-            NoNeu_OpenClutch_SettingT: 0,
-            Engine_SyncSpeed: false,
-            Engine_WaitForSyncClutch: false,
-            Engine_ZeroTorque: false,
-            Engine_WaitForZeroClutch: false,
-            Clutch_Open: false,
-            Error_Clutch_Open: false,
-            Clutch_Close: false,
-            Error_Clutch_Close: false,
-            Gear_Release: false,
-            Error_Gear_Release: false,
-            Gear_Set: false,
-            Error_Gear_Set: false,
-            FromNeu_RequestOpenClutch: false,
-            ToNeu_RequestOpenClutch: false,
-            NoNeu_RequestOpenClutch_Releasing: false,
-            NoNeu_RequestOpenClutch_Setting: false,
-            FromNeu_RequestOpenClutchT: 0,
-            ToNeu_RequestOpenClutchT: 0,
-            NoNeu_RequestOpenClutch_ReleasingT: 0,
-            NoNeu_RequestOpenClutch_SettingT: 0,
-            Engine_Request_SyncSpeed: false,
-            Engine_Request_ZeroTorque: false,
-            Clutch_Request_Open: false,
-            Clutch_Request_Close: false,
-            Gear_Request_Release: false,
-            Gear_Request_Set: false,
-            Engine_Request_SyncSpeedT: 0,
-            Engine_Request_ZeroTorqueT: 0,
-            Clutch_Request_OpenT: 0,
-            Clutch_Request_CloseT: 0,
-            Gear_Request_ReleaseT: 0,
-            Gear_Request_SetT: 0,
-            Engine_SyncSpeedT: 0,
-            Engine_ZeroTorqueT: 0,
-            Clutch_OpenT: 0,
-            Clutch_CloseT: 0,
-            Gear_ReleaseT: 0,
-            Gear_SetT: 0,
+            ..Variables::default()
         }
     }
+
+    // An error flag of the controller is up.
+    pub fn erred(&self) -> bool
+        ensures { result ≡ erred self.now }
+    {
+        self.Error_FromNeu_OpenClutch
+            | self.Error_FromNeu_SetGear_NoClutch
+            | self.Error_FromNeu_SetGear_Clutch
+            | self.Error_FromNeu_CloseClutch
+            | self.Error_ToNeu_OpenClutch
+            | self.Error_ToNeu_Release_NoClutch
+            | self.Error_ToNeu_Release_Clutch
+            | self.Error_ToNeu_CloseClutch
+            | self.Error_NoNeu_OpenClutch_Releasing
+            | self.Error_NoNeu_Release_Clutch
+            | self.Error_NoNeu_Release_NoClutch
+            | self.Error_NoNeu_OpenClutch_Setting
+            | self.Error_NoNeu_SetGear_NoClutch
+            | self.Error_NoNeu_SetGear_ReleasingClutch
+            | self.Error_NoNeu_SetGear_SettingClutch
+            | self.Error_NoNeu_CloseClutch_Releasing
+            | self.Error_NoNeu_CloseClutch_Setting
+    }
 }
+
+// The numbers 8, 9 and 10 below are what an event's `number` is by the definitions of specs/. A time, the time that it runs from and the
+// limit stand apart, as in these guards: the first two are variables, and the last an entry of the table.
 
 // The number of a guard that isNeu stands so: 8 where it does not.
 pub fn on_side(holds: bool) -> u8
@@ -282,18 +224,17 @@ pub fn early_by(time: u32, since: u32, de: u16) -> u64
     times::beyond(times::bound(since, de), time as u64)
 }
 
-// A guard of Tick_Tock: where these flags stand so, now ≤ since + limit. The milliseconds by which it is passed, or those of a guard
-// before it.
-pub fn past(before: u64, flags: bool, now: u64, since: u32, limit: u16) -> u64
-    ensures { result ≡ past_else before (past flags now since limit) }
-{
-    if before != 0 {
-        return before;
-    }
-    if flags {
-        times::beyond(now, times::bound(since, limit))
-    } else {
-        0
+impl Event {
+    // An event whose guards are all on flags.
+    pub fn free(enabled: bool, after: Variables) -> Event
+        ensures { result ≡ free enabled after }
+    {
+        Event {
+            enabled,
+            number: 0,
+            excess: 0,
+            after,
+        }
     }
 }
 
@@ -302,4 +243,77 @@ pub fn or_else(a: Event, b: Event) -> Event
     ensures { result ≡ or_else a b }
 {
     if a.enabled { a } else { b }
+}
+
+// The first of some events that is enabled, the last where none is.
+pub fn first_of(first: Event, others: &[Event]) -> Event
+    ensures { result ≡ first_of first others.now }
+{
+    others
+        .iter()
+        .fold(first, |found, event| or_else(found, *event))
+}
+
+impl Guard {
+    // The milliseconds by which the guard is passed, 0 where it holds, as Ticks.antt's `past` has them.
+    pub fn past(&self, now: u64) -> u64
+        ensures { result ≡ past_at now self.now }
+    {
+        if self.flags {
+            times::beyond(now, times::bound(self.since, self.limit))
+        } else {
+            0
+        }
+    }
+}
+
+// The same of a guard behind others, by its parts; or what was found before it.
+pub fn past(before: u64, flags: bool, now: u64, since: u32, limit: u16) -> u64
+    ensures { result ≡ past_else before (past flags now since limit) }
+{
+    if before != 0 {
+        return before;
+    }
+    Guard {
+        flags,
+        since,
+        limit,
+    }
+    .past(now)
+}
+
+// The milliseconds by which the first guard is passed that does not hold.
+pub fn first_past(guards: &[Guard], now: u64) -> Option<u64>
+    ensures { result ≡ find (λ over. not (over == 0)) (map (past_at now) guards.now) }
+{
+    guards
+        .iter()
+        .map(|guard| guard.past(now))
+        .find(|over| *over != 0)
+}
+
+impl Moved {
+    // A step that is accepted, and the variables after it.
+    pub fn accepted(variables: Variables) -> Moved
+        ensures { result ≡ accepted variables }
+    {
+        Moved {
+            number: 0,
+            rule: 0,
+            excess: 0,
+            variables,
+        }
+    }
+
+    // A step that is refused with this number and this excess, and the variables that were given.
+    pub fn refused(number: u8, excess: u64, variables: Variables) -> Moved
+        ensures { result ≡ refused number excess variables }
+    {
+        Moved {
+            number,
+            rule: 0,
+            excess,
+            variables,
+        }
+    }
 }

@@ -5,12 +5,13 @@ use mathlib.Core.Path.{◌≡◌, refl, ap, subst}
 use mathlib.Core.Bool.{true}
 use mathlib.Core.List.{List, [], ◌∷◌}
 use Prim.Native.Nat.{ℕ, zero, suc}
+use Rattle.std.specs.Prelude.{Ok, Err}
 use Rattle.limits.specs.declared.Table.{Table}
 use Rattle.limits.specs.Rules.{broken_rule}
 use Rattle.shift.specs.declared.State.{State}
 use Rattle.shift.specs.declared.Answer.{Answer}
-use Rattle.shift.specs.declared.Reading.{Reading}
-use Rattle.shift.specs.declared.Reading.TheVariants.{Means, WrongCode, WrongAmount}
+use Rattle.shift.specs.Readings.{Reading}
+use Rattle.shift.specs.declared.Misread.TheVariants.{WrongCode, WrongAmount}
 use Rattle.shift.specs.States.{start}
 use Rattle.shift.specs.Answers.{guard, led, excess, answer, judged, admitting}
 use Rattle.shift.specs.Runs.{Outcome, after, run}
@@ -33,20 +34,20 @@ at_start = record { place = rest true; valid_place = tt; variables = refl; state
 -- ---- one reading
 
 same : (t : Table) (v : Variables) (s : State) (r : Reading) → Joined v s → number_of t v r ≡ guard t s r
-same t v s (Means x) i = answers t v s x i
-same t v s WrongCode i = refl
-same t v s WrongAmount i = refl
+same t v s (Ok x) i = answers t v s x i
+same t v s (Err WrongCode) i = refl
+same t v s (Err WrongAmount) i = refl
 
 same_excess : (t : Table) (v : Variables) (s : State) (r : Reading) → Joined v s → excess_of t v r ≡ excess t s r (guard t s r)
-same_excess t v s (Means x) i = exceeds t v s x i
-same_excess t v s WrongCode i = refl
-same_excess t v s WrongAmount i = refl
+same_excess t v s (Ok x) i = exceeds t v s x i
+same_excess t v s (Err WrongCode) i = refl
+same_excess t v s (Err WrongAmount) i = refl
 
 goes_on :
     (t : Table) (v : Variables) (s : State) (r : Reading) → Joined v s → number_of t v r ≡ 0 → Joined (led_to t v r) (led s r)
-goes_on t v s (Means x) i e = leads_on t v s x i e
-goes_on t v s WrongCode i e = i
-goes_on t v s WrongAmount i e = i
+goes_on t v s (Ok x) i e = leads_on t v s x i e
+goes_on t v s (Err WrongCode) i e = i
+goes_on t v s (Err WrongAmount) i e = i
 
 -- answered alike, and joined again
 pub record Together (m : Moved) (a : Answer) : Type 0 where

@@ -6,13 +6,13 @@ use mathlib.Core.List.{List, map, ◌++◌}
 use Prim.Native.Nat.{ℕ, suc}
 use native.Mathlib.Omega.{arith}
 use lib.Dec.{T}
+use Rattle.std.specs.Prelude.{Ok}
 use Rattle.checks.specs.Checks.{Check, first}
 use Rattle.checks.proofs.Tests.{case, passes}
 use Rattle.limits.specs.declared.Table.{Table}
 use Rattle.shift.specs.declared.State.{State}
 use Rattle.shift.specs.declared.Step.{Step}
 use Rattle.shift.specs.Steps.{effect}
-use Rattle.shift.specs.declared.Reading.TheVariants.{Means}
 use Rattle.shift.specs.Answers.{listed, guard, excess}
 use Rattle.manual.specs.declared.Variables.{Variables}
 use Rattle.manual.specs.Events.{answered, exceeded}
@@ -91,18 +91,18 @@ module _ (t : Table) (v : Variables) (s : State) (x : Step) (i : Joined v s) whe
   abbrev c : Place
   c = i.place
 
-  pub answers : answered (stepped t v x) ≡ guard t s (Means x)
+  pub answers : answered (stepped t v x) ≡ guard t s (Ok x)
   answers =
-      subst (λ (u : Variables). answered (stepped t u x) ≡ guard t s (Means x)) (sym i.variables)
+      subst (λ (u : Variables). answered (stepped t u x) ≡ guard t s (Ok x)) (sym i.variables)
       (same_number t v s c i.valid_place x
-      ∙ subst (λ (r : State). first (listed r ++ plainly t r x) ≡ guard t s (Means x)) i.state
+      ∙ subst (λ (r : State). first (listed r ++ plainly t r x) ≡ guard t s (Ok x)) i.state
       (ap (λ (cs : List Check). first (listed s ++ cs)) (sym (plain t s x))))
 
-  pub exceeds : exceeded (stepped t v x) ≡ excess t s (Means x) (guard t s (Means x))
+  pub exceeds : exceeded (stepped t v x) ≡ excess t s (Ok x) (guard t s (Ok x))
   exceeds =
-      subst (λ (u : Variables). exceeded (stepped t u x) ≡ excess t s (Means x) (guard t s (Means x))) (sym i.variables)
+      subst (λ (u : Variables). exceeded (stepped t u x) ≡ excess t s (Ok x) (guard t s (Ok x))) (sym i.variables)
       (same_excess t v s c i.valid_place x
-      ∙ subst (λ (r : State). plain_over t r x ≡ excess t s (Means x) (guard t s (Means x))) i.state (sym (over t s x)))
+      ∙ subst (λ (r : State). plain_over t r x ≡ excess t s (Ok x) (guard t s (Ok x))) i.state (sym (over t s x)))
 
   pub leads_on : answered (stepped t v x) ≡ 0 → Joined (stepped t v x).after (effect s x)
   leads_on z =

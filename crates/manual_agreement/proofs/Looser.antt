@@ -8,7 +8,7 @@ use Rattle.limits.specs.Refusals.{by_old_default, by_new_default}
 use Rattle.limits.specs.Rules.{broken_rule}
 use Rattle.limits.specs.Tighter.{NowhereTighter}
 use Rattle.shift.specs.declared.State.{State}
-use Rattle.shift.specs.declared.Reading.{Reading}
+use Rattle.shift.specs.Readings.{Reading}
 use Rattle.shift.specs.States.{start}
 use Rattle.shift.specs.Runs.{run}
 use Rattle.promises.proofs.Promises.{accepted_by_a_looser_table}

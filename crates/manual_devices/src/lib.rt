@@ -1,4 +1,5 @@
 // Machine m9: the three requests, engine, clutch and gear, and FINAL: a function for each event, with the manual's labels; and reset.
+// Each takes what its definition takes: the variables and, where a guard is on a time, the table.
 #![tactic(auto)]
 
 ghost use Rattle.std.specs.Prelude.{◌≡◌};
@@ -20,10 +21,8 @@ pub fn RequestFromNeu(mut v: Variables) -> Event
     v.RequestFromNeu = true; // act1
     v.RequestFromNeuT = v.time; // act2
     Event {
-        enabled,
         number,
-        excess: 0,
-        after: v,
+        ..Event::free(enabled, v)
     }
 }
 
@@ -37,10 +36,8 @@ pub fn RequestNoNeu(mut v: Variables) -> Event
     v.RequestNoNeu = true; // act1
     v.RequestNoNeuT = v.time; // act2
     Event {
-        enabled,
         number,
-        excess: 0,
-        after: v,
+        ..Event::free(enabled, v)
     }
 }
 
@@ -54,10 +51,8 @@ pub fn RequestToNeu(mut v: Variables) -> Event
     v.RequestToNeu = true; // act1
     v.RequestToNeuT = v.time; // act2
     Event {
-        enabled,
         number,
-        excess: 0,
-        after: v,
+        ..Event::free(enabled, v)
     }
 }
 
@@ -68,12 +63,7 @@ pub fn Engine_Request_SyncSpeed(mut v: Variables) -> Event
         & !v.Engine_Request_SyncSpeed; // grd2
     v.Engine_Request_SyncSpeed = true; // act1
     v.Engine_Request_SyncSpeedT = v.time; // act2
-    Event {
-        enabled,
-        number: 0,
-        excess: 0,
-        after: v,
-    }
+    Event::free(enabled, v)
 }
 
 pub fn Engine_SyncSpeed(mut v: Variables) -> Event
@@ -84,12 +74,7 @@ pub fn Engine_SyncSpeed(mut v: Variables) -> Event
         & !v.Engine_WaitForSyncClutch; // grd3
     v.Engine_SyncSpeed = true; // act1
     v.Engine_SyncSpeedT = v.time; // act2
-    Event {
-        enabled,
-        number: 0,
-        excess: 0,
-        after: v,
-    }
+    Event::free(enabled, v)
 }
 
 pub fn Engine_WaitForSyncClutch(mut v: Variables) -> Event
@@ -99,12 +84,7 @@ pub fn Engine_WaitForSyncClutch(mut v: Variables) -> Event
         & !v.Engine_SyncSpeed // grd2
         & !v.Engine_WaitForSyncClutch; // grd3
     v.Engine_WaitForSyncClutch = true; // act1
-    Event {
-        enabled,
-        number: 0,
-        excess: 0,
-        after: v,
-    }
+    Event::free(enabled, v)
 }
 
 pub fn Engine_Request_ZeroTorque(mut v: Variables) -> Event
@@ -114,12 +94,7 @@ pub fn Engine_Request_ZeroTorque(mut v: Variables) -> Event
         & !v.Engine_Request_ZeroTorque; // grd2
     v.Engine_Request_ZeroTorque = true; // act1
     v.Engine_Request_ZeroTorqueT = v.time; // act2
-    Event {
-        enabled,
-        number: 0,
-        excess: 0,
-        after: v,
-    }
+    Event::free(enabled, v)
 }
 
 pub fn Engine_ZeroTorque(mut v: Variables) -> Event
@@ -130,12 +105,7 @@ pub fn Engine_ZeroTorque(mut v: Variables) -> Event
         & !v.Engine_WaitForZeroClutch; // grd3
     v.Engine_ZeroTorque = true; // act1
     v.Engine_ZeroTorqueT = v.time; // act2
-    Event {
-        enabled,
-        number: 0,
-        excess: 0,
-        after: v,
-    }
+    Event::free(enabled, v)
 }
 
 pub fn Engine_WaitForZeroClutch(mut v: Variables) -> Event
@@ -145,12 +115,7 @@ pub fn Engine_WaitForZeroClutch(mut v: Variables) -> Event
         & !v.Engine_ZeroTorque // grd2
         & !v.Engine_WaitForZeroClutch; // grd3
     v.Engine_WaitForZeroClutch = true; // act1
-    Event {
-        enabled,
-        number: 0,
-        excess: 0,
-        after: v,
-    }
+    Event::free(enabled, v)
 }
 
 pub fn Clutch_Request_Open(mut v: Variables) -> Event
@@ -163,12 +128,7 @@ pub fn Clutch_Request_Open(mut v: Variables) -> Event
         & !v.Clutch_Request_Open; // grd2
     v.Clutch_Request_Open = true; // act1
     v.Clutch_Request_OpenT = v.time; // act2
-    Event {
-        enabled,
-        number: 0,
-        excess: 0,
-        after: v,
-    }
+    Event::free(enabled, v)
 }
 
 pub fn Clutch_Open(mut v: Variables, table: Table) -> Event
@@ -216,12 +176,7 @@ pub fn Clutch_Request_Close(mut v: Variables) -> Event
         & !v.Clutch_Request_Close; // grd2
     v.Clutch_Request_Close = true; // act1
     v.Clutch_Request_CloseT = v.time; // act2
-    Event {
-        enabled,
-        number: 0,
-        excess: 0,
-        after: v,
-    }
+    Event::free(enabled, v)
 }
 
 pub fn Clutch_Close(mut v: Variables, table: Table) -> Event
@@ -269,12 +224,7 @@ pub fn Gear_Request_Release(mut v: Variables) -> Event
         & !v.Gear_Request_Release; // grd2
     v.Gear_Request_Release = true; // act1
     v.Gear_Request_ReleaseT = v.time; // act2
-    Event {
-        enabled,
-        number: 0,
-        excess: 0,
-        after: v,
-    }
+    Event::free(enabled, v)
 }
 
 pub fn Gear_Release(mut v: Variables) -> Event
@@ -285,12 +235,7 @@ pub fn Gear_Release(mut v: Variables) -> Event
         & !v.Error_Gear_Release; // grd3
     v.Gear_Release = true; // act1
     v.Gear_ReleaseT = v.time; // act2
-    Event {
-        enabled,
-        number: 0,
-        excess: 0,
-        after: v,
-    }
+    Event::free(enabled, v)
 }
 
 pub fn Error_Gear_Release(mut v: Variables) -> Event
@@ -300,12 +245,7 @@ pub fn Error_Gear_Release(mut v: Variables) -> Event
         & !v.Gear_Release // grd2
         & !v.Error_Gear_Release; // grd3
     v.Error_Gear_Release = true; // act1
-    Event {
-        enabled,
-        number: 0,
-        excess: 0,
-        after: v,
-    }
+    Event::free(enabled, v)
 }
 
 pub fn Gear_Request_Set(mut v: Variables) -> Event
@@ -319,12 +259,7 @@ pub fn Gear_Request_Set(mut v: Variables) -> Event
         & !v.Gear_Request_Set; // grd2
     v.Gear_Request_Set = true; // act1
     v.Gear_Request_SetT = v.time; // act2
-    Event {
-        enabled,
-        number: 0,
-        excess: 0,
-        after: v,
-    }
+    Event::free(enabled, v)
 }
 
 pub fn Gear_Set(mut v: Variables) -> Event
@@ -335,12 +270,7 @@ pub fn Gear_Set(mut v: Variables) -> Event
         & !v.Error_Gear_Set; // grd3
     v.Gear_Set = true; // act1
     v.Gear_SetT = v.time; // act2
-    Event {
-        enabled,
-        number: 0,
-        excess: 0,
-        after: v,
-    }
+    Event::free(enabled, v)
 }
 
 pub fn Error_Gear_Set(mut v: Variables) -> Event
@@ -350,14 +280,10 @@ pub fn Error_Gear_Set(mut v: Variables) -> Event
         & !v.Gear_Set // grd2
         & !v.Error_Gear_Set; // grd3
     v.Error_Gear_Set = true; // act1
-    Event {
-        enabled,
-        number: 0,
-        excess: 0,
-        after: v,
-    }
+    Event::free(enabled, v)
 }
 
+// Each of its actions stands under its label, which second/manual reads.
 pub fn FINAL(mut v: Variables) -> Event
     ensures { result ≡ FINAL v }
 {
@@ -410,102 +336,50 @@ pub fn FINAL(mut v: Variables) -> Event
     v.Clutch_Request_Close = false; // act40
     v.Gear_Request_Release = false; // act41
     v.Gear_Request_Set = false; // act42
-    Event {
-        enabled,
-        number: 0,
-        excess: 0,
-        after: v,
-    }
+    Event::free(enabled, v)
 }
 
-// Not the manual's: document 02's reset.
-pub fn RESET(mut v: Variables) -> Event
+// Not the manual's: document 02's reset. It lowers every flag; isNeu and the times stay.
+pub fn RESET(v: Variables) -> Event
     ensures { result ≡ RESET v }
 {
-    let enabled = v.Error_FromNeu_OpenClutch
-        | v.Error_FromNeu_SetGear_NoClutch
-        | v.Error_FromNeu_SetGear_Clutch
-        | v.Error_FromNeu_CloseClutch
-        | v.Error_ToNeu_OpenClutch
-        | v.Error_ToNeu_Release_NoClutch
-        | v.Error_ToNeu_Release_Clutch
-        | v.Error_ToNeu_CloseClutch
-        | v.Error_NoNeu_OpenClutch_Releasing
-        | v.Error_NoNeu_Release_Clutch
-        | v.Error_NoNeu_Release_NoClutch
-        | v.Error_NoNeu_OpenClutch_Setting
-        | v.Error_NoNeu_SetGear_NoClutch
-        | v.Error_NoNeu_SetGear_ReleasingClutch
-        | v.Error_NoNeu_SetGear_SettingClutch
-        | v.Error_NoNeu_CloseClutch_Releasing
-        | v.Error_NoNeu_CloseClutch_Setting;
-    v.RequestFromNeu = false;
-    v.RequestNoNeu = false;
-    v.RequestToNeu = false;
-    v.FromNeu_SyncSpeed = false;
-    v.FromNeu_OpenClutch = false;
-    v.FromNeu_SetGear_NoClutch = false;
-    v.FromNeu_SetGear_Clutch = false;
-    v.FromNeu_CloseClutch = false;
-    v.Error_FromNeu_OpenClutch = false;
-    v.Error_FromNeu_SetGear_NoClutch = false;
-    v.Error_FromNeu_SetGear_Clutch = false;
-    v.Error_FromNeu_CloseClutch = false;
-    v.ToNeu_ZeroTorque = false;
-    v.ToNeu_OpenClutch = false;
-    v.Error_ToNeu_OpenClutch = false;
-    v.ToNeu_Release_NoClutch = false;
-    v.Error_ToNeu_Release_NoClutch = false;
-    v.ToNeu_Release_Clutch = false;
-    v.Error_ToNeu_Release_Clutch = false;
-    v.ToNeu_CloseClutch = false;
-    v.Error_ToNeu_CloseClutch = false;
-    v.NoNeu_ZeroTorque = false;
-    v.NoNeu_Release_NoClutch = false;
-    v.NoNeu_OpenClutch_Releasing = false;
-    v.NoNeu_Release_Clutch = false;
-    v.NoNeu_SyncSpeed = false;
-    v.NoNeu_OpenClutch_Setting = false;
-    v.NoNeu_SetGear_NoClutch = false;
-    v.NoNeu_SetGear_ReleasingClutch = false;
-    v.NoNeu_SetGear_SettingClutch = false;
-    v.NoNeu_CloseClutch_Releasing = false;
-    v.NoNeu_CloseClutch_Setting = false;
-    v.Error_NoNeu_OpenClutch_Releasing = false;
-    v.Error_NoNeu_Release_Clutch = false;
-    v.Error_NoNeu_Release_NoClutch = false;
-    v.Error_NoNeu_OpenClutch_Setting = false;
-    v.Error_NoNeu_SetGear_NoClutch = false;
-    v.Error_NoNeu_SetGear_ReleasingClutch = false;
-    v.Error_NoNeu_SetGear_SettingClutch = false;
-    v.Error_NoNeu_CloseClutch_Releasing = false;
-    v.Error_NoNeu_CloseClutch_Setting = false;
-    v.Engine_SyncSpeed = false;
-    v.Engine_WaitForSyncClutch = false;
-    v.Engine_ZeroTorque = false;
-    v.Engine_WaitForZeroClutch = false;
-    v.Clutch_Open = false;
-    v.Error_Clutch_Open = false;
-    v.Clutch_Close = false;
-    v.Error_Clutch_Close = false;
-    v.Gear_Release = false;
-    v.Error_Gear_Release = false;
-    v.Gear_Set = false;
-    v.Error_Gear_Set = false;
-    v.FromNeu_RequestOpenClutch = false;
-    v.ToNeu_RequestOpenClutch = false;
-    v.NoNeu_RequestOpenClutch_Releasing = false;
-    v.NoNeu_RequestOpenClutch_Setting = false;
-    v.Engine_Request_SyncSpeed = false;
-    v.Engine_Request_ZeroTorque = false;
-    v.Clutch_Request_Open = false;
-    v.Clutch_Request_Close = false;
-    v.Gear_Request_Release = false;
-    v.Gear_Request_Set = false;
-    Event {
-        enabled,
-        number: 0,
-        excess: 0,
-        after: v,
-    }
+    let after = Variables {
+        isNeu: v.isNeu,
+        time: v.time,
+        RequestFromNeuT: v.RequestFromNeuT,
+        RequestNoNeuT: v.RequestNoNeuT,
+        RequestToNeuT: v.RequestToNeuT,
+        FromNeu_OpenClutchT: v.FromNeu_OpenClutchT,
+        FromNeu_SyncSpeedT: v.FromNeu_SyncSpeedT,
+        FromNeu_SetGear_ClutchT: v.FromNeu_SetGear_ClutchT,
+        ToNeu_ZeroTorqueT: v.ToNeu_ZeroTorqueT,
+        ToNeu_OpenClutchT: v.ToNeu_OpenClutchT,
+        ToNeu_Release_ClutchT: v.ToNeu_Release_ClutchT,
+        NoNeu_ZeroTorqueT: v.NoNeu_ZeroTorqueT,
+        NoNeu_Release_NoClutchT: v.NoNeu_Release_NoClutchT,
+        NoNeu_OpenClutch_ReleasingT: v.NoNeu_OpenClutch_ReleasingT,
+        NoNeu_Release_ClutchT: v.NoNeu_Release_ClutchT,
+        NoNeu_SetGear_ReleasingClutchT: v.NoNeu_SetGear_ReleasingClutchT,
+        NoNeu_SetGear_SettingClutchT: v.NoNeu_SetGear_SettingClutchT,
+        NoNeu_SyncSpeedT: v.NoNeu_SyncSpeedT,
+        NoNeu_OpenClutch_SettingT: v.NoNeu_OpenClutch_SettingT,
+        FromNeu_RequestOpenClutchT: v.FromNeu_RequestOpenClutchT,
+        ToNeu_RequestOpenClutchT: v.ToNeu_RequestOpenClutchT,
+        NoNeu_RequestOpenClutch_ReleasingT: v.NoNeu_RequestOpenClutch_ReleasingT,
+        NoNeu_RequestOpenClutch_SettingT: v.NoNeu_RequestOpenClutch_SettingT,
+        Engine_Request_SyncSpeedT: v.Engine_Request_SyncSpeedT,
+        Engine_Request_ZeroTorqueT: v.Engine_Request_ZeroTorqueT,
+        Clutch_Request_OpenT: v.Clutch_Request_OpenT,
+        Clutch_Request_CloseT: v.Clutch_Request_CloseT,
+        Gear_Request_ReleaseT: v.Gear_Request_ReleaseT,
+        Gear_Request_SetT: v.Gear_Request_SetT,
+        Engine_SyncSpeedT: v.Engine_SyncSpeedT,
+        Engine_ZeroTorqueT: v.Engine_ZeroTorqueT,
+        Clutch_OpenT: v.Clutch_OpenT,
+        Clutch_CloseT: v.Clutch_CloseT,
+        Gear_ReleaseT: v.Gear_ReleaseT,
+        Gear_SetT: v.Gear_SetT,
+        ..Variables::default()
+    };
+    Event::free(v.erred(), after)
 }

@@ -1,3 +1,2 @@
-pub mod ChainLaws
 pub mod AnswerLaws
 pub mod Determined

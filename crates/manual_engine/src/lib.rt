@@ -1,75 +1,56 @@
 // The thirteen steps on the variables of machine m9: of the events that are a step's, the first that is enabled.
+// Each function takes what its definition takes: the variables and, where a guard is on a time, the table.
 #![tactic(auto)]
 
-ghost use Rattle.std.specs.Prelude.{◌≡◌, cond, [], ◌∷◌};
-ghost use Rattle.shift.specs.declared.Reading.TheVariants.{Means};
-ghost use Rattle.manual.specs.Events.{answered, exceeded, first_of};
+ghost use Rattle.std.specs.Prelude.{◌≡◌, Ok};
+ghost use Rattle.manual.specs.Events.{answered, exceeded};
 ghost use Rattle.manual.specs.Steps.{deliver, device_good, device_failed, engine_waits, take_from_neutral, take_to_neutral, take_gear_to_gear, ask_clutch, error_from_neutral, error_to_neutral, error_gear_to_gear, take, raise_error};
 ghost use Rattle.manual.specs.Answers.{move_to, moved, moved_on};
 
 use limits::Table;
-use manual::{Event, Moved, Variables, or_else};
-use shift::{Reading, Step};
-
-// The first of some events that is enabled, the last where none is.
-fn first_of_3(a: Event, b: Event, c: Event) -> Event
-    ensures { result ≡ first_of a (b ∷ c ∷ []) }
-{
-    or_else(a, or_else(b, c))
-}
-
-fn first_of_4(a: Event, b: Event, c: Event, d: Event) -> Event
-    ensures { result ≡ first_of a (b ∷ c ∷ d ∷ []) }
-{
-    or_else(a, first_of_3(b, c, d))
-}
-
-fn first_of_5(a: Event, b: Event, c: Event, d: Event, e: Event) -> Event
-    ensures { result ≡ first_of a (b ∷ c ∷ d ∷ e ∷ []) }
-{
-    or_else(a, first_of_4(b, c, d, e))
-}
-
-fn first_of_6(a: Event, b: Event, c: Event, d: Event, e: Event, f: Event) -> Event
-    ensures { result ≡ first_of a (b ∷ c ∷ d ∷ e ∷ f ∷ []) }
-{
-    or_else(a, first_of_5(b, c, d, e, f))
-}
+use manual::{Event, Moved, Variables, first_of, or_else};
+use shift::{Step, refusal};
 
 fn deliver(v: Variables) -> Event
     ensures { result ≡ deliver v }
 {
-    first_of_6(
+    first_of(
         manual_devices::Engine_Request_SyncSpeed(v),
-        manual_devices::Engine_Request_ZeroTorque(v),
-        manual_devices::Clutch_Request_Open(v),
-        manual_devices::Clutch_Request_Close(v),
-        manual_devices::Gear_Request_Release(v),
-        manual_devices::Gear_Request_Set(v),
+        &[
+            manual_devices::Engine_Request_ZeroTorque(v),
+            manual_devices::Clutch_Request_Open(v),
+            manual_devices::Clutch_Request_Close(v),
+            manual_devices::Gear_Request_Release(v),
+            manual_devices::Gear_Request_Set(v),
+        ],
     )
 }
 
 fn device_good(v: Variables, table: Table) -> Event
     ensures { result ≡ device_good table v }
 {
-    first_of_6(
+    first_of(
         manual_devices::Engine_SyncSpeed(v),
-        manual_devices::Engine_ZeroTorque(v),
-        manual_devices::Clutch_Open(v, table),
-        manual_devices::Clutch_Close(v, table),
-        manual_devices::Gear_Release(v),
-        manual_devices::Gear_Set(v),
+        &[
+            manual_devices::Engine_ZeroTorque(v),
+            manual_devices::Clutch_Open(v, table),
+            manual_devices::Clutch_Close(v, table),
+            manual_devices::Gear_Release(v),
+            manual_devices::Gear_Set(v),
+        ],
     )
 }
 
 fn device_failed(v: Variables, table: Table) -> Event
     ensures { result ≡ device_failed table v }
 {
-    first_of_4(
+    first_of(
         manual_devices::Error_Clutch_Open(v, table),
-        manual_devices::Error_Clutch_Close(v, table),
-        manual_devices::Error_Gear_Release(v),
-        manual_devices::Error_Gear_Set(v),
+        &[
+            manual_devices::Error_Clutch_Close(v, table),
+            manual_devices::Error_Gear_Release(v),
+            manual_devices::Error_Gear_Set(v),
+        ],
     )
 }
 
@@ -85,157 +66,143 @@ fn engine_waits(v: Variables) -> Event
 fn take_from_neutral(v: Variables, table: Table) -> Event
     ensures { result ≡ take_from_neutral table v }
 {
-    first_of_5(
+    first_of(
         manual_neutral::FromNeu_SyncSpeed(v, table),
-        manual_neutral::FromNeu_OpenClutch(v),
-        manual_neutral::FromNeu_SetGear_NoClutch(v),
-        manual_neutral::FromNeu_SetGear_Clutch(v),
-        manual_neutral::FromNeu_CloseClutch(v),
+        &[
+            manual_neutral::FromNeu_OpenClutch(v),
+            manual_neutral::FromNeu_SetGear_NoClutch(v),
+            manual_neutral::FromNeu_SetGear_Clutch(v),
+            manual_neutral::FromNeu_CloseClutch(v),
+        ],
     )
 }
 
 fn take_to_neutral(v: Variables, table: Table) -> Event
     ensures { result ≡ take_to_neutral table v }
 {
-    first_of_5(
+    first_of(
         manual_neutral::ToNeu_ZeroTorque(v, table),
-        manual_neutral::ToNeu_OpenClutch(v),
-        manual_neutral::ToNeu_Release_NoClutch(v),
-        manual_neutral::ToNeu_Release_Clutch(v),
-        manual_neutral::ToNeu_CloseClutch(v),
+        &[
+            manual_neutral::ToNeu_OpenClutch(v),
+            manual_neutral::ToNeu_Release_NoClutch(v),
+            manual_neutral::ToNeu_Release_Clutch(v),
+            manual_neutral::ToNeu_CloseClutch(v),
+        ],
     )
 }
 
 fn take_gear_to_gear(v: Variables, table: Table) -> Event
     ensures { result ≡ take_gear_to_gear table v }
 {
-    first_of_6(
+    first_of(
         manual_gears::NoNeu_ZeroTorque(v, table),
-        manual_gears::NoNeu_OpenClutch_Releasing(v),
-        manual_gears::NoNeu_Release_NoClutch(v),
-        manual_gears::NoNeu_Release_Clutch(v),
-        manual_gears::NoNeu_SyncSpeed(v, table),
-        first_of_6(
+        &[
+            manual_gears::NoNeu_OpenClutch_Releasing(v),
+            manual_gears::NoNeu_Release_NoClutch(v),
+            manual_gears::NoNeu_Release_Clutch(v),
+            manual_gears::NoNeu_SyncSpeed(v, table),
             manual_gears::NoNeu_OpenClutch_Setting(v),
             manual_gears::NoNeu_SetGear_NoClutch(v),
             manual_gears::NoNeu_SetGear_ReleasingClutch(v),
             manual_gears::NoNeu_SetGear_SettingClutch(v),
             manual_gears::NoNeu_CloseClutch_Setting(v),
             manual_gears::NoNeu_CloseClutch_Releasing(v),
-        ),
+        ],
     )
 }
 
 fn take(v: Variables, table: Table) -> Event
     ensures { result ≡ take table v }
 {
-    first_of_3(
+    first_of(
         take_from_neutral(v, table),
-        take_to_neutral(v, table),
-        take_gear_to_gear(v, table),
+        &[take_to_neutral(v, table), take_gear_to_gear(v, table)],
     )
 }
 
 fn ask_clutch(v: Variables, table: Table) -> Event
     ensures { result ≡ ask_clutch table v }
 {
-    first_of_4(
+    first_of(
         manual_neutral::FromNeu_RequestOpenClutch(v, table),
-        manual_neutral::ToNeu_RequestOpenClutch(v, table),
-        manual_gears::NoNeu_RequestOpenClutch_Releasing(v, table),
-        manual_gears::NoNeu_RequestOpenClutch_Setting(v, table),
+        &[
+            manual_neutral::ToNeu_RequestOpenClutch(v, table),
+            manual_gears::NoNeu_RequestOpenClutch_Releasing(v, table),
+            manual_gears::NoNeu_RequestOpenClutch_Setting(v, table),
+        ],
     )
 }
 
 fn error_from_neutral(v: Variables) -> Event
     ensures { result ≡ error_from_neutral v }
 {
-    first_of_4(
+    first_of(
         manual_neutral::Error_FromNeu_OpenClutch(v),
-        manual_neutral::Error_FromNeu_SetGear_NoClutch(v),
-        manual_neutral::Error_FromNeu_SetGear_Clutch(v),
-        manual_neutral::Error_FromNeu_CloseClutch(v),
+        &[
+            manual_neutral::Error_FromNeu_SetGear_NoClutch(v),
+            manual_neutral::Error_FromNeu_SetGear_Clutch(v),
+            manual_neutral::Error_FromNeu_CloseClutch(v),
+        ],
     )
 }
 
 fn error_to_neutral(v: Variables) -> Event
     ensures { result ≡ error_to_neutral v }
 {
-    first_of_4(
+    first_of(
         manual_neutral::Error_ToNeu_OpenClutch(v),
-        manual_neutral::Error_ToNeu_Release_NoClutch(v),
-        manual_neutral::Error_ToNeu_Release_Clutch(v),
-        manual_neutral::Error_ToNeu_CloseClutch(v),
+        &[
+            manual_neutral::Error_ToNeu_Release_NoClutch(v),
+            manual_neutral::Error_ToNeu_Release_Clutch(v),
+            manual_neutral::Error_ToNeu_CloseClutch(v),
+        ],
     )
 }
 
 fn error_gear_to_gear(v: Variables) -> Event
     ensures { result ≡ error_gear_to_gear v }
 {
-    first_of_5(
+    first_of(
         manual_gears::Error_NoNeu_OpenClutch_Releasing(v),
-        manual_gears::Error_NoNeu_Release_NoClutch(v),
-        manual_gears::Error_NoNeu_Release_Clutch(v),
-        manual_gears::Error_NoNeu_OpenClutch_Setting(v),
-        first_of_5(
+        &[
+            manual_gears::Error_NoNeu_Release_NoClutch(v),
+            manual_gears::Error_NoNeu_Release_Clutch(v),
+            manual_gears::Error_NoNeu_OpenClutch_Setting(v),
             manual_gears::Error_NoNeu_SetGear_NoClutch(v),
             manual_gears::Error_NoNeu_SetGear_ReleasingClutch(v),
             manual_gears::Error_NoNeu_SetGear_SettingClutch(v),
             manual_gears::Error_NoNeu_CloseClutch_Setting(v),
             manual_gears::Error_NoNeu_CloseClutch_Releasing(v),
-        ),
+        ],
     )
 }
 
 fn raise_error(v: Variables) -> Event
     ensures { result ≡ raise_error v }
 {
-    first_of_3(
+    first_of(
         error_from_neutral(v),
-        error_to_neutral(v),
-        error_gear_to_gear(v),
+        &[error_to_neutral(v), error_gear_to_gear(v)],
     )
 }
 
-// The number that an event answers: 7 where it is not enabled.
-fn answered(enabled: bool, number: u8) -> u8
-    ensures { result ≡ cond enabled number 7 }
-{
-    if enabled { number } else { 7 }
-}
-
-// And its excess: 0 where it is not enabled.
-fn exceeded(enabled: bool, excess: u64) -> u64
-    ensures { result ≡ cond enabled excess 0 }
-{
-    if enabled { excess } else { 0 }
-}
-
-// What an event makes of a step: refused, the variables are those given.
+// What an event makes of a step: refused by 7 where it is not enabled, and then by its number, document 01's; refused, the variables are
+// those given.
 fn settled(e: Event, v: Variables) -> Moved
     ensures { result ≡ move_to (answered e) (exceeded e) e.after v }
 {
-    let number = answered(e.enabled, e.number);
-    if number != 0 {
-        return Moved {
-            number,
-            rule: 0,
-            excess: exceeded(e.enabled, e.excess),
-            variables: v,
-        };
+    if !e.enabled {
+        return Moved::refused(7, 0, v);
     }
-    let after = e.after;
-    Moved {
-        number: 0,
-        rule: 0,
-        excess: 0,
-        variables: after,
+    if e.number != 0 {
+        return Moved::refused(e.number, e.excess, v);
     }
+    Moved::accepted(e.after)
 }
 
 // A step, under an admitted table.
 fn moved(v: Variables, table: Table, x: Step) -> Moved
-    ensures { result ≡ moved table v (Means x) }
+    ensures { result ≡ moved table v (Ok x) }
 {
     let e = match x {
         Step::FromNeutral => manual_devices::RequestFromNeu(v),
@@ -261,23 +228,17 @@ fn moved(v: Variables, table: Table, x: Step) -> Moved
 pub fn step(v: Variables, table: Table, code: u8, middle: u8, amount: u32) -> Moved
     ensures { result ≡ moved_on table v code middle amount }
 {
-    let rule = table.broken_rule();
-    if rule != 0 {
+    if let Err(rule) = table.admit() {
         return Moved {
             number: 4,
-            rule,
+            rule: rule.number(),
             excess: 0,
             variables: v,
         };
     }
     let reading = Step::of(code, middle, amount);
-    let Reading::Means(x) = reading else {
-        return Moved {
-            number: reading.refusal(),
-            rule: 0,
-            excess: 0,
-            variables: v,
-        };
+    let Ok(x) = reading else {
+        return Moved::refused(refusal(reading), 0, v);
     };
     moved(v, table, x)
 }

@@ -1,4 +1,5 @@
 // Machine m9: scenario 2, gear to gear: a function for each event, with the manual's labels.
+// Each takes what its definition takes: the variables and, where a guard is on a time, the table.
 #![tactic(auto)]
 
 ghost use Rattle.std.specs.Prelude.{◌≡◌};
@@ -54,12 +55,7 @@ pub fn NoNeu_OpenClutch_Releasing(mut v: Variables) -> Event
         & v.Clutch_Open; // grd4
     v.NoNeu_OpenClutch_Releasing = true; // act1
     v.NoNeu_OpenClutch_ReleasingT = v.time; // act2
-    Event {
-        enabled,
-        number: 0,
-        excess: 0,
-        after: v,
-    }
+    Event::free(enabled, v)
 }
 
 pub fn Error_NoNeu_OpenClutch_Releasing(mut v: Variables) -> Event
@@ -70,12 +66,7 @@ pub fn Error_NoNeu_OpenClutch_Releasing(mut v: Variables) -> Event
         & !v.Error_NoNeu_OpenClutch_Releasing // grd3
         & v.Error_Clutch_Open; // 01: the device has failed; not printed
     v.Error_NoNeu_OpenClutch_Releasing = true; // act1
-    Event {
-        enabled,
-        number: 0,
-        excess: 0,
-        after: v,
-    }
+    Event::free(enabled, v)
 }
 
 pub fn NoNeu_Release_NoClutch(mut v: Variables) -> Event
@@ -88,12 +79,7 @@ pub fn NoNeu_Release_NoClutch(mut v: Variables) -> Event
     v.NoNeu_Release_NoClutch = true; // act1
     v.NoNeu_Release_NoClutchT = v.time; // act2
     v.isNeu = true; // 02: taking a release order makes the box neutral; not printed
-    Event {
-        enabled,
-        number: 0,
-        excess: 0,
-        after: v,
-    }
+    Event::free(enabled, v)
 }
 
 pub fn Error_NoNeu_Release_NoClutch(mut v: Variables) -> Event
@@ -104,12 +90,7 @@ pub fn Error_NoNeu_Release_NoClutch(mut v: Variables) -> Event
         & !v.Error_NoNeu_Release_NoClutch // grd3
         & v.Error_Gear_Release; // 01: the device has failed; not printed
     v.Error_NoNeu_Release_NoClutch = true; // act1
-    Event {
-        enabled,
-        number: 0,
-        excess: 0,
-        after: v,
-    }
+    Event::free(enabled, v)
 }
 
 pub fn NoNeu_Release_Clutch(mut v: Variables) -> Event
@@ -122,12 +103,7 @@ pub fn NoNeu_Release_Clutch(mut v: Variables) -> Event
     v.NoNeu_Release_Clutch = true; // act1
     v.NoNeu_Release_ClutchT = v.time; // act2
     v.isNeu = true; // 02: taking a release order makes the box neutral; not printed
-    Event {
-        enabled,
-        number: 0,
-        excess: 0,
-        after: v,
-    }
+    Event::free(enabled, v)
 }
 
 pub fn Error_NoNeu_Release_Clutch(mut v: Variables) -> Event
@@ -138,12 +114,7 @@ pub fn Error_NoNeu_Release_Clutch(mut v: Variables) -> Event
         & !v.Error_NoNeu_Release_Clutch // grd3
         & v.Error_Gear_Release; // 01: the device has failed; not printed
     v.Error_NoNeu_Release_Clutch = true; // act1
-    Event {
-        enabled,
-        number: 0,
-        excess: 0,
-        after: v,
-    }
+    Event::free(enabled, v)
 }
 
 pub fn NoNeu_SyncSpeed(mut v: Variables, table: Table) -> Event
@@ -193,12 +164,7 @@ pub fn NoNeu_OpenClutch_Setting(mut v: Variables) -> Event
         & v.Clutch_Open; // grd4
     v.NoNeu_OpenClutch_Setting = true; // act1
     v.NoNeu_OpenClutch_SettingT = v.time; // act2
-    Event {
-        enabled,
-        number: 0,
-        excess: 0,
-        after: v,
-    }
+    Event::free(enabled, v)
 }
 
 pub fn Error_NoNeu_OpenClutch_Setting(mut v: Variables) -> Event
@@ -209,12 +175,7 @@ pub fn Error_NoNeu_OpenClutch_Setting(mut v: Variables) -> Event
         & !v.NoNeu_OpenClutch_Setting // grd3
         & v.Error_Clutch_Open; // 01: the device has failed; not printed
     v.Error_NoNeu_OpenClutch_Setting = true; // act1
-    Event {
-        enabled,
-        number: 0,
-        excess: 0,
-        after: v,
-    }
+    Event::free(enabled, v)
 }
 
 pub fn NoNeu_SetGear_NoClutch(mut v: Variables) -> Event
@@ -226,12 +187,7 @@ pub fn NoNeu_SetGear_NoClutch(mut v: Variables) -> Event
         & v.Gear_Set; // grd4
     v.NoNeu_SetGear_NoClutch = true; // act1
     v.isNeu = false; // 02: taking a set order makes the box in gear; not printed
-    Event {
-        enabled,
-        number: 0,
-        excess: 0,
-        after: v,
-    }
+    Event::free(enabled, v)
 }
 
 pub fn Error_NoNeu_SetGear_NoClutch(mut v: Variables) -> Event
@@ -242,12 +198,7 @@ pub fn Error_NoNeu_SetGear_NoClutch(mut v: Variables) -> Event
         & !v.NoNeu_SetGear_NoClutch // grd3
         & v.Error_Gear_Set; // 01: the device has failed; not printed
     v.Error_NoNeu_SetGear_NoClutch = true; // act1
-    Event {
-        enabled,
-        number: 0,
-        excess: 0,
-        after: v,
-    }
+    Event::free(enabled, v)
 }
 
 pub fn NoNeu_SetGear_ReleasingClutch(mut v: Variables) -> Event
@@ -260,12 +211,7 @@ pub fn NoNeu_SetGear_ReleasingClutch(mut v: Variables) -> Event
     v.NoNeu_SetGear_ReleasingClutch = true; // act1
     v.NoNeu_SetGear_ReleasingClutchT = v.time; // act2
     v.isNeu = false; // 02: taking a set order makes the box in gear; not printed
-    Event {
-        enabled,
-        number: 0,
-        excess: 0,
-        after: v,
-    }
+    Event::free(enabled, v)
 }
 
 pub fn Error_NoNeu_SetGear_ReleasingClutch(mut v: Variables) -> Event
@@ -276,12 +222,7 @@ pub fn Error_NoNeu_SetGear_ReleasingClutch(mut v: Variables) -> Event
         & !v.NoNeu_SetGear_ReleasingClutch // grd3
         & v.Error_Gear_Set; // 01: the device has failed; not printed
     v.Error_NoNeu_SetGear_ReleasingClutch = true; // act1
-    Event {
-        enabled,
-        number: 0,
-        excess: 0,
-        after: v,
-    }
+    Event::free(enabled, v)
 }
 
 pub fn NoNeu_SetGear_SettingClutch(mut v: Variables) -> Event
@@ -294,12 +235,7 @@ pub fn NoNeu_SetGear_SettingClutch(mut v: Variables) -> Event
     v.NoNeu_SetGear_SettingClutch = true; // act1
     v.NoNeu_SetGear_SettingClutchT = v.time; // act2
     v.isNeu = false; // 02: taking a set order makes the box in gear; not printed
-    Event {
-        enabled,
-        number: 0,
-        excess: 0,
-        after: v,
-    }
+    Event::free(enabled, v)
 }
 
 pub fn Error_NoNeu_SetGear_SettingClutch(mut v: Variables) -> Event
@@ -310,12 +246,7 @@ pub fn Error_NoNeu_SetGear_SettingClutch(mut v: Variables) -> Event
         & !v.NoNeu_SetGear_SettingClutch // grd3
         & v.Error_Gear_Set; // 01: the device has failed; not printed
     v.Error_NoNeu_SetGear_SettingClutch = true; // act1
-    Event {
-        enabled,
-        number: 0,
-        excess: 0,
-        after: v,
-    }
+    Event::free(enabled, v)
 }
 
 pub fn NoNeu_CloseClutch_Setting(mut v: Variables) -> Event
@@ -326,12 +257,7 @@ pub fn NoNeu_CloseClutch_Setting(mut v: Variables) -> Event
         & !v.NoNeu_CloseClutch_Setting // grd3
         & v.Clutch_Close; // grd4
     v.NoNeu_CloseClutch_Setting = true; // act1
-    Event {
-        enabled,
-        number: 0,
-        excess: 0,
-        after: v,
-    }
+    Event::free(enabled, v)
 }
 
 pub fn Error_NoNeu_CloseClutch_Setting(mut v: Variables) -> Event
@@ -342,12 +268,7 @@ pub fn Error_NoNeu_CloseClutch_Setting(mut v: Variables) -> Event
         & !v.NoNeu_CloseClutch_Setting // grd3
         & v.Error_Clutch_Close; // 01: the device has failed; not printed
     v.Error_NoNeu_CloseClutch_Setting = true; // act1
-    Event {
-        enabled,
-        number: 0,
-        excess: 0,
-        after: v,
-    }
+    Event::free(enabled, v)
 }
 
 pub fn NoNeu_CloseClutch_Releasing(mut v: Variables) -> Event
@@ -358,12 +279,7 @@ pub fn NoNeu_CloseClutch_Releasing(mut v: Variables) -> Event
         & !v.NoNeu_CloseClutch_Releasing // grd3
         & v.Clutch_Close; // grd4
     v.NoNeu_CloseClutch_Releasing = true; // act1
-    Event {
-        enabled,
-        number: 0,
-        excess: 0,
-        after: v,
-    }
+    Event::free(enabled, v)
 }
 
 pub fn Error_NoNeu_CloseClutch_Releasing(mut v: Variables) -> Event
@@ -374,10 +290,5 @@ pub fn Error_NoNeu_CloseClutch_Releasing(mut v: Variables) -> Event
         & !v.NoNeu_CloseClutch_Releasing // grd3
         & v.Error_Clutch_Close; // 01: the device has failed; not printed
     v.Error_NoNeu_CloseClutch_Releasing = true; // act1
-    Event {
-        enabled,
-        number: 0,
-        excess: 0,
-        after: v,
-    }
+    Event::free(enabled, v)
 }

@@ -7,7 +7,7 @@ use Prim.Native.Nat.{ℕ}
 use contract.Lifetimes.{Lfts}
 use denote.Triple.Clauses.{AtExit}
 use Rattle.limits.specs.declared.Table.{Table}
-use Rattle.shift.specs.declared.Reading.{Reading}
+use Rattle.shift.specs.Readings.{Reading}
 use Rattle.manual.specs.declared.Variables.{Variables}
 use Rattle.manual.specs.declared.Moved.{Moved}
 use Rattle.manual.specs.Variables.{initialisation}

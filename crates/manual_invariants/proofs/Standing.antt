@@ -5,12 +5,13 @@ use mathlib.Core.Bool.{true}
 use mathlib.Core.List.{List, [], ◌∷◌}
 use Prim.Native.Nat.{ℕ, zero, suc}
 use lib.Dec.{T}
+use Rattle.std.specs.Prelude.{Ok, Err}
 use Rattle.checks.proofs.Tests.{case}
 use Rattle.limits.specs.declared.Table.{Table}
 use Rattle.limits.specs.Rules.{broken_rule}
 use Rattle.shift.specs.declared.Step.{Step}
-use Rattle.shift.specs.declared.Reading.{Reading}
-use Rattle.shift.specs.declared.Reading.TheVariants.{Means, WrongCode, WrongAmount}
+use Rattle.shift.specs.Readings.{Reading}
+use Rattle.shift.specs.declared.Misread.TheVariants.{WrongCode, WrongAmount}
 use Rattle.shift.specs.States.{start}
 use Rattle.shift.specs.Answers.{reading}
 use Rattle.manual.specs.declared.Variables.{Variables}
@@ -52,9 +53,9 @@ module _ (t : Table) (v : Variables) (x : Step) (c : Place) (i : StandsAt c v) w
 -- ---- runs
 module _ (t : Table) (P : Variables → Type 0) (keeps : (v : Variables) (x : Step) → P v → answered (stepped t v x) ≡ 0 → P (stepped t v x).after) where
   goes_on : (v : Variables) (r : Reading) → P v → number_of t v r ≡ 0 → P (led_to t v r)
-  goes_on v (Means x) i z = keeps v x i z
-  goes_on v WrongCode i z = i
-  goes_on v WrongAmount i z = i
+  goes_on v (Ok x) i z = keeps v x i z
+  goes_on v (Err WrongCode) i z = i
+  goes_on v (Err WrongAmount) i z = i
 
   one_more : (k over : ℕ) (v : Variables) (o : Outcome) → P v → (k ≡ 0 → P o.variables) → P (after k over v o).variables
   one_more zero over v o i f = f refl

@@ -1,4 +1,5 @@
 // Machine m9: scenarios 1 and 3, from neutral and to neutral: a function for each event, with the manual's labels.
+// Each takes what its definition takes: the variables and, where a guard is on a time, the table.
 #![tactic(auto)]
 
 ghost use Rattle.std.specs.Prelude.{◌≡◌};
@@ -55,12 +56,7 @@ pub fn FromNeu_OpenClutch(mut v: Variables) -> Event
         & v.Clutch_Open; // grd4
     v.FromNeu_OpenClutch = true; // act1
     v.FromNeu_OpenClutchT = v.time; // act2
-    Event {
-        enabled,
-        number: 0,
-        excess: 0,
-        after: v,
-    }
+    Event::free(enabled, v)
 }
 
 pub fn Error_FromNeu_OpenClutch(mut v: Variables) -> Event
@@ -71,12 +67,7 @@ pub fn Error_FromNeu_OpenClutch(mut v: Variables) -> Event
         & !v.FromNeu_OpenClutch // grd3
         & v.Error_Clutch_Open; // 01: the device has failed; not printed
     v.Error_FromNeu_OpenClutch = true; // act1
-    Event {
-        enabled,
-        number: 0,
-        excess: 0,
-        after: v,
-    }
+    Event::free(enabled, v)
 }
 
 pub fn FromNeu_SetGear_NoClutch(mut v: Variables) -> Event
@@ -88,12 +79,7 @@ pub fn FromNeu_SetGear_NoClutch(mut v: Variables) -> Event
         & v.Gear_Set; // grd4
     v.FromNeu_SetGear_NoClutch = true; // act1
     v.isNeu = false; // act2
-    Event {
-        enabled,
-        number: 0,
-        excess: 0,
-        after: v,
-    }
+    Event::free(enabled, v)
 }
 
 pub fn Error_FromNeu_SetGear_NoClutch(mut v: Variables) -> Event
@@ -104,12 +90,7 @@ pub fn Error_FromNeu_SetGear_NoClutch(mut v: Variables) -> Event
         & !v.FromNeu_SetGear_NoClutch // grd3
         & v.Error_Gear_Set; // grd4; 01: the device has failed; printed Gear_Set
     v.Error_FromNeu_SetGear_NoClutch = true; // act1
-    Event {
-        enabled,
-        number: 0,
-        excess: 0,
-        after: v,
-    }
+    Event::free(enabled, v)
 }
 
 pub fn FromNeu_SetGear_Clutch(mut v: Variables) -> Event
@@ -122,12 +103,7 @@ pub fn FromNeu_SetGear_Clutch(mut v: Variables) -> Event
     v.FromNeu_SetGear_Clutch = true; // act1
     v.FromNeu_SetGear_ClutchT = v.time; // act2
     v.isNeu = false; // 02: taking a set order makes the box in gear; not printed
-    Event {
-        enabled,
-        number: 0,
-        excess: 0,
-        after: v,
-    }
+    Event::free(enabled, v)
 }
 
 pub fn Error_FromNeu_SetGear_Clutch(mut v: Variables) -> Event
@@ -138,12 +114,7 @@ pub fn Error_FromNeu_SetGear_Clutch(mut v: Variables) -> Event
         & !v.FromNeu_SetGear_Clutch // grd3
         & v.Error_Gear_Set; // 01: the device has failed; not printed
     v.Error_FromNeu_SetGear_Clutch = true; // act1
-    Event {
-        enabled,
-        number: 0,
-        excess: 0,
-        after: v,
-    }
+    Event::free(enabled, v)
 }
 
 pub fn FromNeu_CloseClutch(mut v: Variables) -> Event
@@ -155,12 +126,7 @@ pub fn FromNeu_CloseClutch(mut v: Variables) -> Event
         & v.Clutch_Close; // grd4
     v.FromNeu_CloseClutch = true; // act1
     // act2; 02: left out, as entering 22 no longer moves the box; printed isNeu := FALSE
-    Event {
-        enabled,
-        number: 0,
-        excess: 0,
-        after: v,
-    }
+    Event::free(enabled, v)
 }
 
 pub fn Error_FromNeu_CloseClutch(mut v: Variables) -> Event
@@ -171,12 +137,7 @@ pub fn Error_FromNeu_CloseClutch(mut v: Variables) -> Event
         & !v.FromNeu_CloseClutch // grd3
         & v.Error_Clutch_Close; // 01: the device has failed; not printed
     v.Error_FromNeu_CloseClutch = true; // act1
-    Event {
-        enabled,
-        number: 0,
-        excess: 0,
-        after: v,
-    }
+    Event::free(enabled, v)
 }
 
 pub fn ToNeu_ZeroTorque(mut v: Variables, table: Table) -> Event
@@ -226,12 +187,7 @@ pub fn ToNeu_OpenClutch(mut v: Variables) -> Event
         & v.Clutch_Open; // grd4
     v.ToNeu_OpenClutch = true; // act1
     v.ToNeu_OpenClutchT = v.time; // act2
-    Event {
-        enabled,
-        number: 0,
-        excess: 0,
-        after: v,
-    }
+    Event::free(enabled, v)
 }
 
 pub fn Error_ToNeu_OpenClutch(mut v: Variables) -> Event
@@ -242,12 +198,7 @@ pub fn Error_ToNeu_OpenClutch(mut v: Variables) -> Event
         & !v.Error_ToNeu_OpenClutch // grd3
         & v.Error_Clutch_Open; // 01: the device has failed; not printed
     v.Error_ToNeu_OpenClutch = true; // act1
-    Event {
-        enabled,
-        number: 0,
-        excess: 0,
-        after: v,
-    }
+    Event::free(enabled, v)
 }
 
 pub fn ToNeu_Release_NoClutch(mut v: Variables) -> Event
@@ -259,12 +210,7 @@ pub fn ToNeu_Release_NoClutch(mut v: Variables) -> Event
         & v.Gear_Release; // grd4
     v.ToNeu_Release_NoClutch = true; // act1
     v.isNeu = true; // act2
-    Event {
-        enabled,
-        number: 0,
-        excess: 0,
-        after: v,
-    }
+    Event::free(enabled, v)
 }
 
 pub fn Error_ToNeu_Release_NoClutch(mut v: Variables) -> Event
@@ -275,12 +221,7 @@ pub fn Error_ToNeu_Release_NoClutch(mut v: Variables) -> Event
         & !v.Error_ToNeu_Release_NoClutch // grd3
         & v.Error_Gear_Release; // 01: the device has failed; not printed
     v.Error_ToNeu_Release_NoClutch = true; // act1
-    Event {
-        enabled,
-        number: 0,
-        excess: 0,
-        after: v,
-    }
+    Event::free(enabled, v)
 }
 
 pub fn ToNeu_Release_Clutch(mut v: Variables) -> Event
@@ -293,12 +234,7 @@ pub fn ToNeu_Release_Clutch(mut v: Variables) -> Event
     v.ToNeu_Release_Clutch = true; // act1
     v.ToNeu_Release_ClutchT = v.time; // act2
     v.isNeu = true; // 02: taking a release order makes the box neutral; not printed
-    Event {
-        enabled,
-        number: 0,
-        excess: 0,
-        after: v,
-    }
+    Event::free(enabled, v)
 }
 
 pub fn Error_ToNeu_Release_Clutch(mut v: Variables) -> Event
@@ -309,12 +245,7 @@ pub fn Error_ToNeu_Release_Clutch(mut v: Variables) -> Event
         & !v.Error_ToNeu_Release_Clutch // grd3
         & v.Error_Gear_Release; // 01: the device has failed; not printed
     v.Error_ToNeu_Release_Clutch = true; // act1
-    Event {
-        enabled,
-        number: 0,
-        excess: 0,
-        after: v,
-    }
+    Event::free(enabled, v)
 }
 
 pub fn ToNeu_CloseClutch(mut v: Variables) -> Event
@@ -326,12 +257,7 @@ pub fn ToNeu_CloseClutch(mut v: Variables) -> Event
         & v.Clutch_Close; // grd4
     v.ToNeu_CloseClutch = true; // act1
     // act2; 02: left out, as entering 22 no longer moves the box; printed isNeu := TRUE
-    Event {
-        enabled,
-        number: 0,
-        excess: 0,
-        after: v,
-    }
+    Event::free(enabled, v)
 }
 
 pub fn Error_ToNeu_CloseClutch(mut v: Variables) -> Event
@@ -342,10 +268,5 @@ pub fn Error_ToNeu_CloseClutch(mut v: Variables) -> Event
         & !v.Error_ToNeu_CloseClutch // grd3
         & v.Error_Clutch_Close; // 01: the device has failed; not printed
     v.Error_ToNeu_CloseClutch = true; // act1
-    Event {
-        enabled,
-        number: 0,
-        excess: 0,
-        after: v,
-    }
+    Event::free(enabled, v)
 }

@@ -1,12 +1,15 @@
 -- Document 02, request 1: what the manual's variables say in our terms.
 -- Assumes nothing.
-use Rattle.std.specs.Prelude.{Bool, false, not, cond, ◌&&◌, ◌||◌, List, [], ◌∷◌, ℕ, eqb, get_or}
+use Rattle.std.specs.Prelude.{Bool, false, not, cond, ◌&&◌, ◌||◌, List, [], ◌∷◌, Option, ℕ, eqb, get_or}
+use Rattle.std.specs.List.{find}
 use Rattle.phases.specs.Phases.{at_rest, done, error, order_of}
 use Rattle.shift.specs.States.{neutral, in_gear, none, sent, working, good, failed, waiting}
 use Rattle.manual.specs.declared.Variables.{Variables}
 use Rattle.manual.specs.Final.{FINAL}
 use Rattle.manual.specs.Reset.{erred}
 use Rattle.manual_reading.specs.declared.Phase.{Phase}
+use Rattle.manual_reading.specs.declared.Candidate.{Candidate}
+use Rattle.manual_reading.specs.declared.Device.{Device}
 use Rattle.manual_reading.specs.declared.Stage.{Stage}
 use Rattle.manual_reading.specs.declared.Read.{Read}
 
@@ -17,6 +20,10 @@ phase number time request = record { number = number; time = time; request = req
 -- what was found before, and where that is none this one, if its entering flag is up and its leaving flags are down
 unfoldable pub or_phase : Phase → ℕ → Bool → Bool → ℕ → ℕ → Phase
 or_phase found number entered left time request = cond (eqb found.number at_rest && entered && not left) (phase number time request) found
+
+-- the first of some phases in code that was entered and not left
+unfoldable pub first_entered : List Candidate → Option Candidate
+first_entered phases = find (λ p. p.entered && not p.left) phases
 
 -- 23 by an error, 22 by what FINAL asks for; no flag leaves these two, and there they have no times
 unfoldable pub outside : Variables → Phase
@@ -68,6 +75,10 @@ stage number time = record { number = number; time = time }
 unfoldable pub stage_by : Bool → ℕ → Bool → ℕ → Bool → ℕ → ℕ → Stage
 stage_by request request_t is_good good_t ended otherwise start =
     cond ended (stage otherwise 0) (cond is_good (stage good good_t) (cond request (stage working request_t) (stage sent start)))
+
+-- the same of a device in code
+abbrev pub by_device : Device → ℕ → Stage
+by_device d start = stage_by d.request d.request_time d.good d.good_time d.ended d.otherwise start
 
 -- by order: an engine ends otherwise by waiting for the clutch, the others by failing
 abbrev pub stages : Variables → ℕ → List Stage

@@ -3,14 +3,20 @@
 use mathlib.Core.Path.{◌≡◌, refl, ap, sym, ◌∙◌}
 use mathlib.Core.Bool.{cond}
 use mathlib.Core.List.{List, [], ◌∷◌, ◌++◌}
-use Prim.Native.Nat.{ℕ, zero, suc, ◌+◌, ◌-◌}
+use Prim.Native.Nat.{ℕ, zero, suc, ◌+◌, ◌-◌, ◌<◌}
 use native.Mathlib.Omega.{arith}
 use lib.Dec.{eqb}
 use borrow.Author.Tests.{ne_eqb}
+use Rattle.std.specs.Prelude.{Option, None, Some, Ok}
 use Rattle.checks.specs.Checks.{Check, first}
 use Rattle.limits.specs.declared.Table.{Table}
 use Rattle.manual.specs.declared.Variables.{Variables}
-use Rattle.manual.specs.Ticks.{past_else, first_past, refusing, phase_limits, stage_limits, clock_limit, tick_guards}
+use Rattle.shift.specs.declared.Step.TheVariants.{Tick}
+use Rattle.manual.specs.declared.Moved.{Moved}
+use Rattle.manual.specs.Variables.{flag, time_of, variables, pass}
+use Rattle.manual.specs.Ticks.{past_else, first_past, passed, refusing, phase_limits, stage_limits, clock_limit, tick_guards, tick_excess}
+use Rattle.manual.specs.Answers.{accepted, refused, moved}
+use Rattle.manual.proofs.AnswerLaws.{refuses, accepts}
 use Rattle.manual.proofs.GuardLaws.{alone, before}
 
 grouped : (x y z : ℕ) → past_else (past_else x y) z ≡ past_else x (past_else y z)
@@ -18,27 +24,19 @@ unfolding past_else
 grouped zero y z = refl
 grouped (suc x) y z = refl
 
--- ---- the first of some guards that is passed
+-- ---- what is found of some guards: the milliseconds by which the first is passed, and none where that is 0
 
--- where x is found before a guard, one is found with it, of which P holds
-infixr 10 ◌then◌
-pub data Found (x y : ℕ) (P : ℕ → Type 0) : Type 0 where
-  ◌then◌ : {k : ℕ} → k ≡ past_else x y → P k → Found x y P
+found : {o : Option ℕ} {k : ℕ} (x : ℕ) → o ≡ passed x → o ≡ Some k → k ≡ x
+found zero p q = absurd (cc)
+found (suc x) p q = cc
 
--- of some guards one by one, up to the last
-abbrev pub OneByOne : ℕ → List ℕ → ℕ → Type 0
-OneByOne x [] r = r ≡ x
-OneByOne x (y ∷ ys) r = Found x y (λ k. OneByOne k ys r)
+more : {o : Option ℕ} {k : ℕ} (x : ℕ) → o ≡ passed x → o ≡ Some k → ¬ (k ≡ 0)
+more zero p q e = absurd (cc)
+more {k} (suc x) p q e = let same : k ≡ suc x = found (suc x) p q in omega (arith, same, e)
 
-found : (x : ℕ) (ys : List ℕ) {r : ℕ} → OneByOne x ys r → r ≡ past_else x (first_past ys)
-found x [] e = e ∙ sym (alone x)
-found x (y ∷ ys) (e then f) =
-    let z = first_past ys in
-    found _ ys f ∙ (ap (λ k. past_else k z) e ∙ grouped x y z)
-
-pub one_by_one : {r : ℕ} (ys : List ℕ) → OneByOne 0 ys r → r ≡ first_past ys
-unfolding past_else
-one_by_one ys f = found 0 ys f
+none : {o : Option ℕ} (x : ℕ) → o ≡ passed x → o ≡ None → x ≡ 0
+none zero p q = refl
+none (suc x) p q = absurd (cc)
 
 -- ---- what refuses, and by how much: of a list of guards with one number and of what comes after them
 
@@ -96,22 +94,54 @@ module _ (t : Table) (v : Variables) (tick : ℕ) where
   abbrev ByPhase : ℕ → ℕ → Type 0
   ByPhase k over = Refused k over (refusing 11 phases) phases
 
-  pub past_clock : {x : ℕ} → x ≡ now - 4294967295 → ¬ (x ≡ 0) → ByClock 13 x
+  past_clock : {x : ℕ} → x ≡ now - 4294967295 → ¬ (x ≡ 0) → ByClock 13 x
   past_clock p =
       stops 13 (clock_limit now) (stages ++ phases) (refusing 12 stages ++ refusing 11 phases) (p ∙ sym (alone (now - 4294967295)))
 
-  pub in_clock : {x k over : ℕ} → x ≡ now - 4294967295 → x ≡ 0 → ByStage k over → ByClock k over
-  in_clock p =
-      goes 13 (clock_limit now) (stages ++ phases) (refusing 12 stages ++ refusing 11 phases) (p ∙ sym (alone (now - 4294967295)))
+  in_clock : {k over : ℕ} → now < 4294967296 → ByStage k over → ByClock k over
+  in_clock fits =
+      let z : now - 4294967295 ≡ 0 = omega (arith, fits) in
+      goes 13 (clock_limit now) (stages ++ phases) (refusing 12 stages ++ refusing 11 phases) (sym (alone (now - 4294967295))) z
 
-  pub past_stage : {x : ℕ} → x ≡ first_past stages → ¬ (x ≡ 0) → ByStage 12 x
+  past_stage : {x : ℕ} → x ≡ first_past stages → ¬ (x ≡ 0) → ByStage 12 x
   past_stage p = stops 12 stages phases (refusing 11 phases) p
 
-  pub in_stage : {x k over : ℕ} → x ≡ first_past stages → x ≡ 0 → ByPhase k over → ByStage k over
-  in_stage p = goes 12 stages phases (refusing 11 phases) p
+  in_stage : {k over : ℕ} → first_past stages ≡ 0 → ByPhase k over → ByStage k over
+  in_stage = goes 12 stages phases (refusing 11 phases) refl
 
-  pub past_phase : {x : ℕ} → x ≡ first_past phases → ¬ (x ≡ 0) → ByPhase 11 x
+  past_phase : {x : ℕ} → x ≡ first_past phases → ¬ (x ≡ 0) → ByPhase 11 x
   past_phase p = stops 11 phases [] [] p
 
-  pub in_phase : {x : ℕ} → x ≡ first_past phases → x ≡ 0 → ByPhase 0 0
-  in_phase p z = goes 11 phases [] [] p z (record { number = refl; excess = refl })
+  in_phase : first_past phases ≡ 0 → ByPhase 0 0
+  in_phase z = goes 11 phases [] [] refl z (record { number = refl; excess = refl })
+
+  -- what a tick is answered by
+  abbrev answer : Moved
+  answer = moved t v (Ok (Tick tick))
+
+  refuse : (k : ℕ) {over : ℕ} → ¬ (k ≡ 0) → ByClock k over → refused k over v ≡ answer
+  refuse k {over} h r = refuses k over (pass tick v) v r.number r.excess h
+
+  pub clock_passed : {over : ℕ} → over ≡ now - 4294967295 → ¬ (now < 4294967296) → refused 13 over v ≡ answer
+  clock_passed p h = refuse 13 (λ e. omega arith) (past_clock p (λ e. omega (arith, p, e, h)))
+
+  -- where the clock fits
+  module _ (fits : now < 4294967296) where
+    pub stage_passed : {o : Option ℕ} {over : ℕ} → o ≡ passed (first_past stages) → o ≡ Some over → refused 12 over v ≡ answer
+    stage_passed p s =
+        let x = first_past stages in
+        refuse 12 (λ e. omega arith) (in_clock fits (past_stage (found x p s) (more x p s)))
+
+    module _ {o : Option ℕ} (p : o ≡ passed (first_past stages)) (s : o ≡ None) where
+      pub phase_passed : {o' : Option ℕ} {over : ℕ} → o' ≡ passed (first_past phases) → o' ≡ Some over → refused 11 over v ≡ answer
+      phase_passed p' s' =
+          let x = first_past phases in
+          refuse 11 (λ e. omega arith) (in_clock fits (in_stage (none (first_past stages) p s) (past_phase (found x p' s') (more x p' s'))))
+
+      pub none_passed :
+          {o' : Option ℕ} {n : ℕ} → o' ≡ passed (first_past phases) → o' ≡ None → n ≡ now
+          → accepted (variables n v.isNeu (flag v) (time_of v)) ≡ answer
+      none_passed p' s' q =
+          let r = in_clock fits (in_stage (none (first_past stages) p s) (in_phase (none (first_past phases) p' s'))) in
+          ap (λ k. accepted (variables k v.isNeu (flag v) (time_of v))) q
+          ∙ accepts (tick_excess t v now) (pass tick v) v (sym r.number)

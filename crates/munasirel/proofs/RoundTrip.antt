@@ -2,6 +2,7 @@
 -- as what was given, with the new default where none is wished; and a good file that was taken apart stands there again, in eighteen
 -- entries where it had none or twenty-two with four zeros.
 -- Assumes nothing.
+use Rattle.std.proofs.Common.{Some, None}
 use mathlib.Core.Path.{◌≡◌, refl, ap, subst, ◌∙◌}
 use mathlib.Core.Bool.{Bool, true, false, cond}
 use mathlib.Core.List.{List}
@@ -14,14 +15,12 @@ use denote.Triple.Clauses.{AtExit}
 use Rattle.limits.specs.declared.Table.{Table}
 use Rattle.limits.specs.Limits.{new_default}
 use Rattle.limits.specs.Refusals.{by_old_default}
-use Rattle.shift.specs.declared.Reading.{Reading}
+use Rattle.shift.specs.Readings.{Reading}
 use Rattle.shift.specs.States.{start}
 use Rattle.shift.specs.Runs.{Outcome, run}
 use Rattle.promises.proofs.Defaults.{accepted_by_the_new_default}
-use Rattle.stepfile.specs.declared.write.Wish.TheVariants.{Given, NoTable}
-use Rattle.stepfile.specs.declared.write.Written.{Written}
 use Rattle.stepfile.specs.Files.{table_in}
-use Rattle.stepfile.specs.Writing.{wished, first_wrong, refused_with, written_of, buffer_after}
+use Rattle.stepfile.specs.Writing.{Written, wished, first_wrong, refused_with, written_of, buffer_after}
 use Rattle.stepfile.specs.RoundTrip.{readings_by, OtherEntries}
 use Rattle.stepfile.proofs.RoundTripCalls.{Stands, TakenApart, StandsAgain, long_in_eighteen, StandsInEighteen, reads_back, gives_the_file_back, gives_the_file_in_eighteen}
 use Rattle.stepfile.proofs.WishForNone.{StandsForNone, none_reads_back, none_without_room}
@@ -39,7 +38,7 @@ use Rattle.munasirel.specs.contracts.munasirel_table as table_call
 use Rattle.munasirel.proofs.munasirel_table.Reads as table_reads
 
 -- the wish for none is the new default
-by_wish : (b : Bool) (t : Table) → wished (cond b NoTable (Given t)) ≡ cond b new_default t
+by_wish : (b : Bool) (t : Table) → wished (cond b None (Some t)) ≡ cond b new_default t
 by_wish true t = refl
 by_wish false t = refl
 
@@ -106,7 +105,7 @@ module _
 
   -- where none is wished
   module _ (none : with_table ≡ 0) where
-    its_wish : wish_of with_table table ≡ NoTable
+    its_wish : wish_of with_table table ≡ None
     its_wish = ap (λ k. wish_of k table) none
 
     its_answer : answer ≡ written_of new_default codes amounts (length before)

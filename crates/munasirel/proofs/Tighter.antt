@@ -8,7 +8,7 @@ use contract.Lifetimes.{Lfts}
 use denote.Triple.Clauses.{AtExit}
 use Rattle.limits.specs.declared.Table.{Table}
 use Rattle.limits.specs.Tighter.{NowhereTighter}
-use Rattle.shift.specs.declared.Reading.{Reading}
+use Rattle.shift.specs.Readings.{Reading}
 use Rattle.shift.specs.States.{start}
 use Rattle.shift.specs.Runs.{run}
 use Rattle.promises.proofs.Promises.{accepted_by_a_looser_table}

@@ -1,15 +1,12 @@
 -- Document 01, "Step files, parts and writing": the writer with its wish as a number.
 -- Assumes nothing.
-use Rattle.std.specs.Prelude.{cond, List, ℕ, eqb, length}
+use Rattle.std.specs.Prelude.{cond, List, ℕ, eqb, length, Option, Some, None}
 use Rattle.limits.specs.declared.Table.{Table}
-use Rattle.stepfile.specs.declared.write.Wish.{Wish}
-use Rattle.stepfile.specs.declared.write.Wish.TheVariants.{Given, NoTable}
-use Rattle.stepfile.specs.declared.write.Written.{Written}
-use Rattle.stepfile.specs.Writing.{wished, written_of, buffer_after}
+use Rattle.stepfile.specs.Writing.{Written, wished, written_of, buffer_after}
 
 -- the table to write; 0 is the wish for none
-abbrev pub wish_of : ℕ → Table → Wish
-wish_of k t = cond (eqb k 0) NoTable (Given t)
+abbrev pub wish_of : ℕ → Table → Option Table
+wish_of k t = cond (eqb k 0) None (Some t)
 
 -- what the writer answers into a buffer, and the buffer afterwards
 abbrev pub written_for : ℕ → Table → List ℕ → List ℕ → List ℕ → Written

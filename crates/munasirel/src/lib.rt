@@ -1,4 +1,5 @@
 // What a host in C calls: judging, the limit table, the line, joining, writing, the list of shifts, and advancing a state that the host keeps.
+// Its numbers are those of document 01's list, and a wish is a number, as include/munasirel.h has them.
 #![tactic(auto)]
 
 ghost use Rattle.std.specs.Prelude.{◌≡◌, length};
@@ -19,7 +20,6 @@ ghost use Rattle.munasirel.specs.Calls.{wish_of, written_for, out_after};
 use limits::Table;
 use shift::State;
 use shiftlist::{Fetched, Listed};
-use stepfile::write::Wish;
 use verdict::Verdict;
 
 // The number of the verdict on a file.
@@ -91,9 +91,16 @@ pub extern "C" fn munasirel_table(file: &[u8]) -> Table
 pub extern "C" fn munasirel_line(file: &[u8], out: &mut [u8], length: &mut usize) -> u8
     ensures { (result ≡ (laid (line_for file.now) out.old).number) × (length.new ≡ (laid (line_for file.now) out.old).length) × (out.new ≡ after (line_for file.now) out.old) }
 {
-    let laid = verdict::line(file, out);
-    *length = laid.length;
-    laid.number
+    match verdict::line(file, out) {
+        Ok(size) => {
+            *length = size;
+            0
+        }
+        Err(refusal) => {
+            *length = 0;
+            refusal.number()
+        }
+    }
 }
 
 // Joins a part to the bytes held, and counts anew how many are.
@@ -106,9 +113,13 @@ pub extern "C" fn munasirel_join(
 ) -> u8
     ensures { (result ≡ (joined buffer.old held.old offset part.now).number) × (held.new ≡ (joined buffer.old held.old offset part.now).held) × (buffer.new ≡ buffer_after buffer.old held.old offset part.now) }
 {
-    let joined = transfer::join(buffer, *held, offset, part);
-    *held = joined.held;
-    joined.number
+    match transfer::join(buffer, *held, offset, part) {
+        Ok(count) => {
+            *held = count;
+            0
+        }
+        Err(refusal) => refusal.number(),
+    }
 }
 
 // Writes a step file into `out`, of two lists of one length, with the table or, where `with_table` is 0, with the new default.
@@ -126,20 +137,27 @@ pub extern "C" fn munasirel_write(
     ensures { (result ≡ (written_for with_table table codes.now amounts.now out.old).number) × (length.new ≡ (written_for with_table table codes.now amounts.now out.old).length) × (index.new ≡ (written_for with_table table codes.now amounts.now out.old).index) × (rule.new ≡ (written_for with_table table codes.now amounts.now out.old).rule) × (out.new ≡ out_after with_table table codes.now amounts.now out.old) }
 {
     let written = stepfile::write::write(wish_of(with_table, table), codes, amounts, out);
-    *length = written.length;
-    *index = written.index;
-    *rule = written.rule;
-    written.number
+    match written {
+        Ok(size) => {
+            *length = size;
+            *index = 0;
+            *rule = 0;
+            0
+        }
+        Err(unwritten) => {
+            *length = 0;
+            *index = unwritten.index();
+            *rule = unwritten.rule();
+            unwritten.number()
+        }
+    }
 }
 
 // 0 wishes for no table.
-fn wish_of(with_table: u8, table: Table) -> Wish
+fn wish_of(with_table: u8, table: Table) -> Option<Table>
     ensures { result ≡ wish_of with_table table }
 {
-    if with_table == 0 {
-        return Wish::NoTable;
-    }
-    Wish::Given(table)
+    (with_table != 0).then_some(table)
 }
 
 // The list of a file's shifts at the start of `out`, or no byte changed.
@@ -190,6 +208,7 @@ pub extern "C" fn munasirel_advance(
 {
     let a = gateway::advanced(*state, table, code, middle, low, high);
     *excess = a.excess;
+    // Where the record is refused nothing is stored, which spares the call a copy of the state.
     if a.number == 0 {
         *state = a.state;
     }

@@ -1,4 +1,5 @@
-// The archive that a host in C links: each function of `munasirel`, exported under its name with its contract.
+// The archive that a host in C links: each function of `munasirel`, exported under its name with its contract. The two are written out side
+// by side: an exported name is one function of a static crate, and the proved ones stand in a library (docs/DECISIONS.md).
 #![tactic(auto)]
 
 ghost use Rattle.std.specs.Prelude.{◌≡◌, length};

@@ -30,13 +30,8 @@ pub extern "C" fn munasirel_m9_advance(
 ) -> Moved
     ensures { result ≡ moved_on table variables code middle (low + 256 * high) }
 {
-    manual_engine::step(
-        variables,
-        table,
-        code,
-        middle,
-        low as u32 + 256 * (high as u32),
-    )
+    let amount = u32::from(u16::from_le_bytes([low, high]));
+    manual_engine::step(variables, table, code, middle, amount)
 }
 
 // What the manual's variables say in our terms.

@@ -1,4 +1,5 @@
 // The archive of the manual's engine that a host in C links: each function of `munasirel_m9`, exported under its name with its contract.
+// The two are written out side by side, as those of `munasirel` and `munasirel_c` are: an exported name is one function of a static crate.
 #![tactic(auto)]
 
 ghost use Rattle.std.specs.Prelude.{◌≡◌, ◌+◌, ◌*◌};

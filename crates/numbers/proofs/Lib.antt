@@ -1,3 +1,2 @@
-pub mod ReadLaws
 pub mod StoreLaws
 pub mod Determined

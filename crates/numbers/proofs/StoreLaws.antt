@@ -4,10 +4,9 @@ use mathlib.Core.Path.{◌≡◌, refl, sym, ap, ◌∙◌}
 use mathlib.Core.List.{List, [], ◌∷◌, ◌++◌}
 use Prim.Native.Nat.{ℕ, suc, ◌+◌, ◌*◌, ◌/◌, ◌%◌, ◌≤◌}
 use native.Mathlib.Nat.{add-zero, zero-add}
-use native.Mathlib.Numerals.{add-one}
 use native.Mathlib.Omega.{arith}
-use lib.ListN.{length, set, drop, length-set}
-use lib.Seq.{sets, sets-eq, set_out}
+use lib.ListN.{length, set, drop}
+use lib.Seq.{sets, sets-eq}
 use Rattle.numbers.specs.Bytes.{bytes_of, halves}
 
 pub bytes_of-append : (xs ys : List ℕ) → bytes_of (xs ++ ys) ≡ bytes_of xs ++ bytes_of ys
@@ -24,25 +23,10 @@ sets-append l i (x ∷ xs) ys =
     let s = set l i x in
     sets-append s (suc i) xs ys ∙ ap (λ n. sets (sets s (suc i) xs) n ys) (omega arith)
 
--- behind the end nothing is stored
-pub sets_out : (l : List ℕ) (i : ℕ) (vs : List ℕ) → length l ≤ i → sets l i vs ≡ l
-sets_out l i [] h = refl
-sets_out l i (v ∷ vs) h = ap (λ m. sets m (suc i) vs) (set_out l i v h) ∙ sets_out l (suc i) vs (omega arith)
-
 -- at the start of a list that has room
 pub at_start : (l vs : List ℕ) (n : ℕ) → length vs ≡ n → n ≤ length l → sets l 0 vs ≡ vs ++ drop n l
 at_start l vs n e h = sets-eq vs l 0 (omega arith) ∙ ap (λ k. vs ++ drop k l) (zero-add (length vs) ∙ e)
 
--- two stores, of a number's two bytes, and one where the second lies behind the end
-pub two_stores : (l : List ℕ) (i a b : ℕ) → set (set l i a) (i + 1) b ≡ sets l i (a ∷ b ∷ [])
-two_stores l i a b = rw (add-one i)
-
-pub one_store : (l : List ℕ) (i a b : ℕ) → length l ≤ i + 1 → set l i a ≡ sets l i (a ∷ b ∷ [])
-one_store l i a b h = let k = length-set l i a in sym (set_out (set l i a) (suc i) b (omega arith))
-
--- a number, and one of 32 bits, in front of others
-pub next16 : (l : List ℕ) (p q n : ℕ) (ns : List ℕ) → p + 2 ≡ q → sets l p (bytes_of (n ∷ ns)) ≡ sets (sets l p (bytes_of (n ∷ []))) q (bytes_of ns)
-next16 l p q n ns e = sets-append l p (bytes_of (n ∷ [])) (bytes_of ns) ∙ ap (λ k. sets (sets l p (bytes_of (n ∷ []))) k (bytes_of ns)) e
-
+-- a number of 32 bits in front of others
 pub next32 : (l : List ℕ) (p q n : ℕ) (ns : List ℕ) → p + 4 ≡ q → sets l p (bytes_of (halves n ns)) ≡ sets (sets l p (bytes_of (halves n []))) q (bytes_of ns)
 next32 l p q n ns e = sets-append l p (bytes_of (halves n [])) (bytes_of ns) ∙ ap (λ k. sets (sets l p (bytes_of (halves n []))) k (bytes_of ns)) e

@@ -1,7 +1,10 @@
-// Little-endian numbers in a slice of bytes, read and stored at any place: behind the end zeros are read, and nothing is stored.
+// Little-endian numbers in a slice of bytes, read and stored at any place: behind the end zeros are read, and nothing is stored. Who reads
+// reads many places of the same bytes, so that a struct of bytes and place would be made anew for each call. Zeros and no Option: the
+// definitions over these, u16_at and table_in among them, read zeros behind the end. A function for each width: from_le_bytes is each
+// type's own, so that one for both would match on the width.
 #![tactic(auto)]
 
-ghost use Rattle.std.specs.Prelude.{◌≡◌, [], ◌∷◌, ◌+◌, ◌*◌, get_or};
+ghost use Rattle.std.specs.Prelude.{◌≡◌, [], ◌∷◌, ◌+◌, get_or};
 ghost use Rattle.std.proofs.lemmas.List.Edits.{sets};
 ghost use Rattle.numbers.specs.Bytes.{u16_at, u32_at, bytes_of, halves};
 
@@ -9,10 +12,7 @@ ghost use Rattle.numbers.specs.Bytes.{u16_at, u32_at, bytes_of, halves};
 pub fn byte_at(bytes: &[u8], at: usize) -> u8
     ensures { result ≡ get_or bytes.now at 0 }
 {
-    if bytes.len() <= at {
-        return 0;
-    }
-    bytes[at]
+    bytes.get(at).copied().unwrap_or(0)
 }
 
 // The number of 16 bits at a place.
@@ -22,7 +22,7 @@ pub fn u16_at(bytes: &[u8], at: usize) -> u16
     if bytes.len() <= at {
         return 0;
     }
-    u16_of(bytes[at], byte_at(bytes, at + 1))
+    u16::from_le_bytes([bytes[at], byte_at(bytes, at + 1)])
 }
 
 // The number of 32 bits at a place.
@@ -32,38 +32,29 @@ pub fn u32_at(bytes: &[u8], at: usize) -> u32
     if bytes.len() <= at {
         return 0;
     }
-    u32_of(u16_at(bytes, at), u16_at(bytes, at + 2))
-}
-
-fn u16_of(low: u8, high: u8) -> u16
-    ensures { result ≡ low + 256 * high }
-{
-    low as u16 + 256 * (high as u16)
-}
-
-fn u32_of(low: u16, high: u16) -> u32
-    ensures { result ≡ low + 65536 * high }
-{
-    low as u32 + 65536 * (high as u32)
+    u32::from_le_bytes([
+        bytes[at],
+        byte_at(bytes, at + 1),
+        byte_at(bytes, at + 2),
+        byte_at(bytes, at + 3),
+    ])
 }
 
 // A number of 16 bits at a place; all other bytes stay.
 pub fn put(out: &mut [u8], at: usize, n: u16)
     ensures { out.new ≡ sets out.old at (bytes_of (n ∷ [])) }
 {
-    let len = out.len();
-    if len <= at {
+    if out.len() <= at {
         return;
     }
-    if len - at < 2 {
-        out[at] = (n % 256) as u8;
-        return;
+    let [low, high] = n.to_le_bytes();
+    out[at] = low;
+    if at + 1 < out.len() {
+        out[at + 1] = high;
     }
-    out[at] = (n % 256) as u8;
-    out[at + 1] = (n / 256) as u8;
 }
 
-// A number of 32 bits at a place; all other bytes stay.
+// A number of 32 bits at a place, as two of 16; all other bytes stay.
 pub fn put32(out: &mut [u8], at: usize, n: u32)
     ensures { out.new ≡ sets out.old at (bytes_of (halves n [])) }
 {

@@ -1,19 +1,15 @@
--- Laws on a choice by cases of the phase: what none of them has, and the phases past the working ones.
+-- A law on a choice by cases of the phase: what none of them has.
 -- Assumes nothing.
-use mathlib.Core.Path.{◌≡◌, refl, sym, ap}
+use mathlib.Core.Path.{◌≡◌}
 use mathlib.Core.Logic.{⊎_elim}
 use mathlib.Core.Bool.{◌||◌}
 use mathlib.Core.List.{List, [], ◌∷◌}
 use Prim.Native.Nat.{ℕ, ◌+◌, ◌≤◌, ◌<◌}
-use native.Mathlib.Decide.{dec_lt}
-use native.Mathlib.Omega.{arith}
 use lib.Dec.{T, eqb, eqb→eq}
-use lib.ListN.{get_or-eq_default}
 use Rattle.checks.specs.Conditions.{OneOf}
 use Rattle.checks.specs.Ranges.{From}
 use Rattle.checks.proofs.Ranges.{from}
 use Rattle.checks.proofs.Tests.{either}
-use Rattle.phases.specs.Phases.{Row, row, rows, row_of}
 use Rattle.phases.specs.ByPhase.{has}
 use Rattle.phases.proofs.ByPhaseLaws.{found}
 
@@ -36,11 +32,3 @@ otherwise v f cases i n each p l h r =
     (λ c. absurd (no_case cases p r (found cases p c)))
     (λ z. eqb→eq v (f p) z)
     (either (has cases p) (eqb v (f p)) (from (λ k. T (has cases k || eqb v (f k))) i n each p l h))
-
--- done, error, and past the table: no column says anything
-pub past_working : (f : Row → ℕ) (p : ℕ) → 22 ≤ p → f (row 0 0 0) ≡ f (row_of p)
-past_working f p h =
-    elim (dec_lt p 24) [
-      | yes l ↦ from (λ k. f (row 0 0 0) ≡ f (row_of k)) 22 2 (refl, (refl, tt)) p h l
-      | no l ↦ ap f (sym (get_or-eq_default rows (row 0 0 0) {n = p} (omega arith)))
-    ]

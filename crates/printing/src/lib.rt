@@ -1,108 +1,105 @@
-// The parts of a line of the test program, written to a writer. What it does not take is left out.
+// A line of the test program, part by part.
 #![tactic(auto)]
 
-ghost use Rattle.std.specs.Prelude.{◌≤◌, ◌<◌, length};
+ghost use Rattle.std.specs.Prelude.{◌≡◌, false};
 
 use limits::Table;
 use shift::State;
-use std::io::Write;
+use std::fmt::Display;
+use std::io;
+use std::io::{ErrorKind, Write};
 
-// A space and a number in decimal.
-pub fn number64(writer: &mut impl Write, n: u64) {
-    let _ = write!(writer, " {n}");
+// A writer of lines, and whether it found that nobody reads them any more. What the writer does not take of a line is left out, part
+// by part: so a record is printed number by number, and not by a Display of its own, behind whose first part that fails none is tried.
+#[derive(Drop)]
+pub struct Line<W> {
+    writer: W,
+    closed: bool,
 }
 
-pub fn number(writer: &mut impl Write, n: usize) {
-    number64(writer, n as u64);
-}
+impl<W> Line<W> {
+    pub fn to(writer: W) -> Line<W>
+        ensures { result ≡ record { writer = writer; closed = false } }
+    {
+        Line {
+            writer,
+            closed: false,
+        }
+    }
 
-pub fn number32(writer: &mut impl Write, n: u32) {
-    number(writer, n as usize);
-}
-
-pub fn number16(writer: &mut impl Write, n: u16) {
-    number(writer, n as usize);
-}
-
-pub fn number8(writer: &mut impl Write, n: u8) {
-    number(writer, n as usize);
-}
-
-// The entries of a table.
-pub fn table(writer: &mut impl Write, table: Table) {
-    let entries = table.entries();
-    for entry in &entries {
-        number16(writer, *entry);
+    // A write found that nobody reads.
+    pub fn is_closed(&self) -> bool
+        ensures { result ≡ self.now.closed }
+    {
+        self.closed
     }
 }
 
-// The fields of a state.
-pub fn state(writer: &mut impl Write, state: State) {
-    number32(writer, state.clock);
-    number8(writer, state.gear_box);
-    number8(writer, state.phase);
-    number32(writer, state.phase_time);
-    number8(writer, state.stage);
-    number32(writer, state.stage_time);
-    number32(writer, state.request_time);
-    number8(writer, state.failed_phase);
-}
+impl<W: Write> Write for Line<W> {
+    ghost contents = { λ line. W.contents line.writer };
 
-// A space and bytes, or `-` for none.
-pub fn bytes(writer: &mut impl Write, bytes: &[u8]) {
-    if bytes.len() == 0 {
-        let _ = writer.write_all(b" -");
-        return;
+    fn write(&mut self, bytes: &[u8]) -> io::Result<usize> {
+        let written = self.writer.write(bytes);
+        if let Err(error) = &written
+            && error.kind() == ErrorKind::BrokenPipe
+        {
+            self.closed = true;
+        }
+        written
     }
-    let _ = writer.write_all(b" ");
-    pairs(writer, bytes);
-}
 
-// Two hexadecimal digits for each byte, by way of a text that is written out whenever it is full.
-fn pairs(writer: &mut impl Write, bytes: &[u8]) {
-    let mut text = [0u8; 4096];
-    let mut count: usize = 0;
-    for byte in bytes {
-        count = put_pair(writer, &mut text, count, *byte);
+    fn flush(&mut self) -> io::Result<()> {
+        self.writer.flush()
     }
-    write_pairs(writer, &text, count);
 }
 
-// One pair behind so many in the text, and how many are there then.
-fn put_pair(writer: &mut impl Write, text: &mut [u8; 4096], count: usize, byte: u8) -> usize
-    ensures { result ≤ 2048 }
-{
-    let to = room(writer, text, count);
-    text[2 * to] = digit(byte / 16);
-    text[2 * to + 1] = digit(byte % 16);
-    to + 1
-}
-
-// How many pairs are left in the text once it has room for one more.
-fn room(writer: &mut impl Write, text: &mut [u8; 4096], count: usize) -> usize
-    ensures { result < 2048 }
-{
-    if count < 2048 {
-        return count;
+impl<W: Write> Line<W> {
+    // A space and a number in decimal.
+    pub fn number(&mut self, n: impl Display + Drop) {
+        let _ = write!(self, " {n}");
     }
-    let _ = writer.write_all(text);
-    0
-}
 
-fn digit(n: u8) -> u8
-    requires { n < 16 }
-{
-    if n < 10 { 48 + n } else { 87 + n }
-}
+    // The entries of a table.
+    pub fn table(&mut self, table: Table) {
+        for entry in table.entries() {
+            self.number(entry);
+        }
+    }
 
-fn write_pairs(writer: &mut impl Write, text: &[u8; 4096], count: usize)
-    requires { count ≤ 2048 }
-{
-    write_part(writer, text, 0, 2 * count);
-}
+    // The fields of a state.
+    pub fn state(&mut self, state: State) {
+        self.number(state.clock);
+        self.number(state.gear_box);
+        self.number(state.phase);
+        self.number(state.phase_time);
+        self.number(state.stage);
+        self.number(state.stage_time);
+        self.number(state.request_time);
+        self.number(state.failed_phase);
+    }
 
-fn write_part(writer: &mut impl Write, text: &[u8], from: usize, to: usize)
-    requires { (from ≤ to) × (to ≤ length text.now) }
-{
-    let _ = writer.write_all(&text[from..to]);
+    // Flags, a byte each: 1 where the flag is up, else 0.
+    pub fn flags<const N: usize>(&mut self, flags: &[bool; N]) {
+        let mut bytes = [0u8; N];
+        for (byte, flag) in bytes.iter_mut().zip(flags) {
+            *byte = u8::from(*flag);
+        }
+        self.bytes(&bytes);
+    }
+
+    // A space and bytes, two hexadecimal digits each, or `-` for none.
+    pub fn bytes(&mut self, bytes: &[u8]) {
+        if bytes.is_empty() {
+            let _ = self.write_all(b" -");
+            return;
+        }
+        let _ = self.write_all(b" ");
+        // The digits of 2048 bytes are written at once; nothing is allocated for them.
+        let mut digits = [0u8; 4096];
+        for piece in bytes.chunks(2048) {
+            let digits = &mut digits[..2 * piece.len()];
+            hex::encode_to_slice(piece, digits).unwrap();
+            let _ = self.write_all(digits);
+        }
+    }
 }

@@ -8,6 +8,7 @@ use native.Mathlib.Omega.{arith}
 use lib.Dec.{eqb}
 use lib.ListN.{get_or}
 use borrow.Author.Tests.{ne_eqb}
+use Rattle.std.specs.Prelude.{Ok}
 use Rattle.checks.specs.Checks.{numbered}
 use Rattle.checks.proofs.Tests.{tests}
 use Rattle.checks.proofs.Checks.{Holds, first→holds}
@@ -16,8 +17,7 @@ use Rattle.limits.specs.declared.Table.{Table}
 use Rattle.limits.specs.Rules.{rules, broken_rule}
 use Rattle.phases.specs.Phases.{order_of, next_of, clutch_of, phase_limit, latest_take, engine}
 use Rattle.shift.specs.declared.State.{State}
-use Rattle.shift.specs.declared.Reading.{Reading}
-use Rattle.shift.specs.declared.Reading.TheVariants.{Means}
+use Rattle.shift.specs.Readings.{Reading}
 use Rattle.shift.specs.declared.Step.{Step}
 use Rattle.shift.specs.declared.Step.TheVariants.{FromNeutral, GearToGear, ToNeutral, Deliver, DeviceGood, DeviceFailed, EngineWaits, Take, AskClutch, RaiseError, Finish, Tick, Reset}
 use Rattle.shift.specs.Steps.{effect}
@@ -106,7 +106,7 @@ request_kept q r h = rw (ne_eqb q 0 (omega arith))
 
 -- ---- every accepted step keeps it
 module _ (t : Table) (k : Kind) (s : State) (i : InTime t k s) where
-  kept : (x : Step) → Holds (checks t s (Means x)) → InTime t (kind_after k (Means x)) (effect s x)
+  kept : (x : Step) → Holds (checks t s (Ok x)) → InTime t (kind_after k (Ok x)) (effect s x)
   kept FromNeutral h = omega arith
   kept GearToGear h = omega arith
   kept ToNeutral h = omega arith

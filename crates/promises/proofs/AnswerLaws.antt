@@ -8,6 +8,7 @@ use native.Mathlib.Omega.{arith}
 use lib.Dec.{T, eqb}
 use lib.ListN.{get_or}
 use borrow.Author.Tests.{eqb-true, eqb-false}
+use Rattle.std.specs.Prelude.{Ok, Err}
 use Rattle.checks.specs.Conditions.{Condition, ◌gives◌, FirstOf, OneOf}
 use Rattle.checks.proofs.ConditionLaws.{no_other}
 use Rattle.checks.proofs.Tests.{case}
@@ -20,8 +21,8 @@ use Rattle.phases.proofs.ByPhaseLaws.{found}
 use Rattle.shift.specs.declared.State.{State}
 use Rattle.shift.specs.declared.Step.{Step}
 use Rattle.shift.specs.declared.Step.TheVariants.{FromNeutral, GearToGear, ToNeutral, Deliver, DeviceGood, DeviceFailed, EngineWaits, Take, AskClutch, RaiseError, Finish, Tick, Reset}
-use Rattle.shift.specs.declared.Reading.{Reading}
-use Rattle.shift.specs.declared.Reading.TheVariants.{Means, WrongCode, WrongAmount}
+use Rattle.shift.specs.Readings.{Reading}
+use Rattle.shift.specs.declared.Misread.TheVariants.{WrongCode, WrongAmount}
 use Rattle.shift.specs.declared.Answer.{Answer}
 use Rattle.shift.specs.Answers.{reading, guard, led, excess, answer, judged, admitting}
 use Rattle.shift.specs.Refusals.{code_of, amount_of, Reads}
@@ -110,9 +111,9 @@ module _ (t : Table) (s : State) (code middle amount : ℕ) where
   makes :
       (r : Reading) → Reads code middle amount r → guard t s r ≡ 0
       → (x : Step) × (code_of x ≡ code) × (amount_of x ≡ amount) × Effect s x (led s r)
-  makes (Means x) h z = (x, h.2, h.3, (effects t s (Means x) ((permitted t s (Means x)).0 z) (led s (Means x))).0 refl)
-  makes WrongCode h z = absurd (omega arith)
-  makes WrongAmount h z = absurd (omega arith)
+  makes (Ok x) h z = (x, h.2, h.3, (effects t s (Ok x) ((permitted t s (Ok x)).0 z) (led s (Ok x))).0 refl)
+  makes (Err WrongCode) h z = absurd (omega arith)
+  makes (Err WrongAmount) h z = absurd (omega arith)
 
   pub answered : Answered t s code middle amount given.number given.excess given.state
   answered =
@@ -138,10 +139,10 @@ module _ (t : Table) (s : State) (code middle amount : ℕ) where
       (r : Reading) → Reads code middle amount r → guard t s r ≡ 0
       → (x : Step) → code_of x ≡ code → amount_of x ≡ amount → (s' : State) → Effect s x s'
       → s' ≡ led s r
-  made (Means y) h z x c n s' e =
-      (effects t s (Means y) ((permitted t s (Means y)).0 z) s').1 (subst (λ (q : Step). Effect s q s') (same_step x y (c ∙ sym h.2) (n ∙ sym h.3)) e)
-  made WrongCode h z x c n s' e = absurd (omega arith)
-  made WrongAmount h z x c n s' e = absurd (omega arith)
+  made (Ok y) h z x c n s' e =
+      (effects t s (Ok y) ((permitted t s (Ok y)).0 z) s').1 (subst (λ (q : Step). Effect s q s') (same_step x y (c ∙ sym h.2) (n ∙ sym h.3)) e)
+  made (Err WrongCode) h z x c n s' e = absurd (omega arith)
+  made (Err WrongAmount) h z x c n s' e = absurd (omega arith)
 
   -- nothing else fits that description
   pub the_one :

@@ -8,6 +8,7 @@ use native.Mathlib.Omega.{arith}
 use lib.Dec.{T, leb, eqb}
 use lib.ListN.{get_or}
 use borrow.Author.Tests.{eqb-true}
+use Rattle.std.specs.Prelude.{Ok, Err}
 use Rattle.checks.specs.Checks.{first}
 use Rattle.checks.proofs.Tests.{tests, case}
 use Rattle.checks.proofs.Checks.{Holds}
@@ -15,8 +16,8 @@ use Rattle.checks.proofs.Ranges.{from}
 use Rattle.limits.specs.declared.Table.{Table}
 use Rattle.phases.specs.Phases.{order_of, next_of, clutch_of}
 use Rattle.shift.specs.declared.State.{State}
-use Rattle.shift.specs.declared.Reading.{Reading}
-use Rattle.shift.specs.declared.Reading.TheVariants.{Means, WrongCode, WrongAmount}
+use Rattle.shift.specs.Readings.{Reading}
+use Rattle.shift.specs.declared.Misread.TheVariants.{WrongCode, WrongAmount}
 use Rattle.shift.specs.declared.Step.{Step}
 use Rattle.shift.specs.declared.Step.TheVariants.{FromNeutral, GearToGear, ToNeutral, Deliver, DeviceGood, DeviceFailed, EngineWaits, Take, AskClutch, RaiseError, Finish, Tick, Reset}
 use Rattle.shift.specs.States.{start}
@@ -49,21 +50,21 @@ module _ (t : Table) (old : ℕ) (s : State) (b : Beside old s) where
       (λ e. rw e)
 
   same_checks : (r : Reading) → first (checks_of (allowed t (boxed old s)) r) ≡ first (checks_of (allowed t s) r)
-  same_checks (Means FromNeutral) = same_side 0
-  same_checks (Means GearToGear) = same_side 1
-  same_checks (Means ToNeutral) = same_side 1
-  same_checks (Means Deliver) = refl
-  same_checks (Means DeviceGood) = refl
-  same_checks (Means DeviceFailed) = refl
-  same_checks (Means EngineWaits) = refl
-  same_checks (Means Take) = refl
-  same_checks (Means AskClutch) = refl
-  same_checks (Means RaiseError) = refl
-  same_checks (Means Finish) = refl
-  same_checks (Means (Tick n)) = refl
-  same_checks (Means Reset) = refl
-  same_checks WrongCode = refl
-  same_checks WrongAmount = refl
+  same_checks (Ok FromNeutral) = same_side 0
+  same_checks (Ok GearToGear) = same_side 1
+  same_checks (Ok ToNeutral) = same_side 1
+  same_checks (Ok Deliver) = refl
+  same_checks (Ok DeviceGood) = refl
+  same_checks (Ok DeviceFailed) = refl
+  same_checks (Ok EngineWaits) = refl
+  same_checks (Ok Take) = refl
+  same_checks (Ok AskClutch) = refl
+  same_checks (Ok RaiseError) = refl
+  same_checks (Ok Finish) = refl
+  same_checks (Ok (Tick n)) = refl
+  same_checks (Ok Reset) = refl
+  same_checks (Err WrongCode) = refl
+  same_checks (Err WrongAmount) = refl
 
   same_guard : (r : Reading) → guard t (boxed old s) r ≡ guard t s r
   same_guard r =
@@ -78,21 +79,21 @@ next old s r = (led_before (boxed old s) r).gear_box
 
 -- what the old rules lead to is today's state with the old box
 same_led : (old : ℕ) (s : State) (r : Reading) → led_before (boxed old s) r ≡ boxed (next old s r) (led s r)
-same_led old s (Means FromNeutral) = refl
-same_led old s (Means GearToGear) = refl
-same_led old s (Means ToNeutral) = refl
-same_led old s (Means Deliver) = refl
-same_led old s (Means DeviceGood) = refl
-same_led old s (Means DeviceFailed) = refl
-same_led old s (Means EngineWaits) = refl
-same_led old s (Means Take) = refl
-same_led old s (Means AskClutch) = refl
-same_led old s (Means RaiseError) = refl
-same_led old s (Means Finish) = refl
-same_led old s (Means (Tick n)) = refl
-same_led old s (Means Reset) = refl
-same_led old s WrongCode = refl
-same_led old s WrongAmount = refl
+same_led old s (Ok FromNeutral) = refl
+same_led old s (Ok GearToGear) = refl
+same_led old s (Ok ToNeutral) = refl
+same_led old s (Ok Deliver) = refl
+same_led old s (Ok DeviceGood) = refl
+same_led old s (Ok DeviceFailed) = refl
+same_led old s (Ok EngineWaits) = refl
+same_led old s (Ok Take) = refl
+same_led old s (Ok AskClutch) = refl
+same_led old s (Ok RaiseError) = refl
+same_led old s (Ok Finish) = refl
+same_led old s (Ok (Tick n)) = refl
+same_led old s (Ok Reset) = refl
+same_led old s (Err WrongCode) = refl
+same_led old s (Err WrongAmount) = refl
 
 -- it is neutral or in gear
 either_way : (b c : Bool) (old : ℕ) → T (leb old 1) → T (leb (cond b (cond c 0 1) old) 1)
@@ -126,7 +127,7 @@ module _ (t : Table) (old : ℕ) (s : State) (b : Beside old s) where
   unmoved : Same s.phase (moved s.phase s.phase old) s.gear_box
   unmoved = rw (stays s.phase old) b.same
 
-  kept : (x : Step) → Holds (checks t s (Means x)) → ¬ (Means x ≡ Means Reset) → Same (led s (Means x)).phase (next old s (Means x)) (led s (Means x)).gear_box
+  kept : (x : Step) → Holds (checks t s (Ok x)) → ¬ (◌≡◌ {A = Reading} (Ok x) (Ok Reset)) → Same (led s (Ok x)).phase (next old s (Ok x)) (led s (Ok x)).gear_box
   kept FromNeutral h n = omega arith
   kept GearToGear h n = omega arith
   kept ToNeutral h n = omega arith
@@ -152,14 +153,14 @@ module _ (t : Table) (old : ℕ) (s : State) (b : Beside old s) where
   kept (Tick n) h m = unmoved
   kept Reset h n = absurd (n refl)
 
-  goes_beside : (r : Reading) → ¬ (r ≡ Means Reset) → guard t s r ≡ 0 → Beside (next old s r) (led s r)
+  goes_beside : (r : Reading) → ¬ (r ≡ Ok Reset) → guard t s r ≡ 0 → Beside (next old s r) (led s r)
   goes_beside r n z = record {
     holds = stays_listed s r b.holds;
     old_holds =
         either_way (eqb (led (boxed old s) r).phase 22 && not (eqb s.phase 22)) (eqb s.phase 19 || eqb s.phase 21) old b.old_holds;
     stands = kept_standing t s b.stands r z;
     same =
-        each_step (λ q. ¬ (q ≡ Means Reset) → Same (led s q).phase (next old s q) (led s q).gear_box) t s kept r z n;
+        each_step (λ q. ¬ (q ≡ Ok Reset) → Same (led s q).phase (next old s q) (led s q).gear_box) t s kept r z n;
   }
 
 -- ---- over lists

@@ -7,14 +7,14 @@ use Prim.Native.Nat.{ℕ, zero, suc, ◌≤◌, ◌<◌}
 use native.Mathlib.Omega.{arith}
 use lib.Dec.{eqb}
 use lib.ListN.{get_or}
+use Rattle.std.specs.Prelude.{Ok}
 use Rattle.checks.proofs.Tests.{tests}
 use Rattle.checks.proofs.Checks.{Holds}
 use Rattle.checks.proofs.Ranges.{from}
 use Rattle.limits.specs.declared.Table.{Table}
 use Rattle.phases.specs.Phases.{order_of, next_of, clutch_of}
 use Rattle.shift.specs.declared.State.{State}
-use Rattle.shift.specs.declared.Reading.{Reading}
-use Rattle.shift.specs.declared.Reading.TheVariants.{Means}
+use Rattle.shift.specs.Readings.{Reading}
 use Rattle.shift.specs.declared.Step.{Step}
 use Rattle.shift.specs.declared.Step.TheVariants.{FromNeutral, GearToGear, ToNeutral, Deliver, DeviceGood, DeviceFailed, EngineWaits, Take, AskClutch, RaiseError, Finish, Tick, Reset}
 use Rattle.shift.specs.Steps.{effect}
@@ -51,7 +51,7 @@ asked box = from _ 1 21 (omega arith)
 
 -- ---- every accepted step keeps it
 module _ (t : Table) (s : State) (i : Stands s.phase s.gear_box) where
-  kept : (x : Step) → Holds (checks t s (Means x)) → Stands (effect s x).phase (effect s x).gear_box
+  kept : (x : Step) → Holds (checks t s (Ok x)) → Stands (effect s x).phase (effect s x).gear_box
   kept FromNeutral h = omega (arith, tests)
   kept GearToGear h = omega (arith, tests)
   kept ToNeutral h = omega (arith, tests)

@@ -5,7 +5,7 @@ use mathlib.Core.List.{List}
 use native.Mathlib.Omega.{arith}
 use Rattle.limits.specs.Refusals.{by_old_default, by_new_default}
 use Rattle.limits.specs.Tighter.{NowhereTighter}
-use Rattle.shift.specs.declared.Reading.{Reading}
+use Rattle.shift.specs.Readings.{Reading}
 use Rattle.shift.specs.States.{start}
 use Rattle.shift.specs.Runs.{run}
 use Rattle.promises.proofs.Promises.{accepted_by_a_looser_table}

@@ -8,6 +8,7 @@ use Prim.Native.Nat.{ℕ, ◌+◌, ◌≤◌, ◌<◌}
 use native.Mathlib.Omega.{arith}
 use lib.Dec.{eqb}
 use borrow.Author.Tests.{eqb-true, eqb-false, ne_eqb}
+use Rattle.std.specs.Prelude.{Ok, Err}
 use Rattle.checks.specs.Conditions.{OneOf}
 use Rattle.checks.proofs.Tests.{case}
 use Rattle.checks.proofs.Ranges.{from}
@@ -17,8 +18,8 @@ use Rattle.phases.specs.ByPhase.{set_phases, release_phases, engine_phases, next
 use Rattle.phases.proofs.PhaseLaws.{next_listed, clutch_listed}
 use Rattle.phases.proofs.ByPhaseLaws.{among, each, engine_of, set_in, release_in, next_in, clutch_in}
 use Rattle.shift.specs.declared.State.{State}
-use Rattle.shift.specs.declared.Reading.{Reading}
-use Rattle.shift.specs.declared.Reading.TheVariants.{Means, WrongCode, WrongAmount}
+use Rattle.shift.specs.Readings.{Reading}
+use Rattle.shift.specs.declared.Misread.TheVariants.{WrongCode, WrongAmount}
 use Rattle.shift.specs.declared.Step.{Step}
 use Rattle.shift.specs.declared.Step.TheVariants.{FromNeutral, GearToGear, ToNeutral, Deliver, DeviceGood, DeviceFailed, EngineWaits, Take, AskClutch, RaiseError, Finish, Tick, Reset}
 use Rattle.shift.specs.States.{entered}
@@ -218,6 +219,6 @@ module _ (t : Table) (s : State) where
   meets x h s' = (λ e. subst (Effect s x) (sym e) (described x h), λ m. one x h s' (effect s x) m (described x h))
 
   pub effects : (r : Reading) → Permitted t s r → (s' : State) → (s' ≡ led s r) ↔ Makes s r s'
-  effects (Means x) h = meets x h.1
-  effects WrongCode h = absurd h
-  effects WrongAmount h = absurd h
+  effects (Ok x) h = meets x h.1
+  effects (Err WrongCode) h = absurd h
+  effects (Err WrongAmount) h = absurd h

@@ -6,14 +6,14 @@ use mathlib.Core.Logic.{⊎_elim}
 use mathlib.Core.List.{List, [], ◌∷◌}
 use Prim.Native.Nat.{ℕ, zero, suc, ◌+◌, ◌≤◌}
 use native.Mathlib.Omega.{arith}
+use Rattle.std.specs.Prelude.{Ok}
 use Rattle.checks.proofs.Tests.{tests}
 use Rattle.checks.proofs.Checks.{Holds}
 use Rattle.checks.proofs.Ranges.{from}
 use Rattle.limits.specs.declared.Table.{Table}
 use Rattle.limits.specs.Refusals.{Admitted}
 use Rattle.shift.specs.declared.State.{State}
-use Rattle.shift.specs.declared.Reading.{Reading}
-use Rattle.shift.specs.declared.Reading.TheVariants.{Means}
+use Rattle.shift.specs.Readings.{Reading}
 use Rattle.shift.specs.declared.Step.{Step}
 use Rattle.shift.specs.declared.Step.TheVariants.{FromNeutral, GearToGear, ToNeutral, Deliver, DeviceGood, DeviceFailed, EngineWaits, Take, AskClutch, RaiseError, Finish, Tick, Reset}
 use Rattle.shift.specs.Refusals.{Formed}
@@ -112,7 +112,7 @@ still s u v x y = record {
 }
 
 module _ (t : Table) (s : State) (e : s.phase ≡ 23) where
-  ticks_alone : (x : Step) → Holds (checks t s (Means x)) → ¬ (Means x ≡ Means Reset) → Stopped s (led s (Means x))
+  ticks_alone : (x : Step) → Holds (checks t s (Ok x)) → ¬ (◌≡◌ {A = Reading} (Ok x) (Ok Reset)) → Stopped s (led s (Ok x))
   ticks_alone FromNeutral h n = absurd (omega (arith, tests))
   ticks_alone GearToGear h n = absurd (omega (arith, tests))
   ticks_alone ToNeutral h n = absurd (omega (arith, tests))
@@ -127,8 +127,8 @@ module _ (t : Table) (s : State) (e : s.phase ≡ 23) where
   ticks_alone (Tick k) h n = clocked s (s.clock + k)
   ticks_alone Reset h n = absurd (n refl)
 
-  ticks_on : (r : Reading) → guard t s r ≡ 0 → ¬ (r ≡ Means Reset) → Stopped s (led s r)
-  ticks_on = each_step (λ r. ¬ (r ≡ Means Reset) → Stopped s (led s r)) t s ticks_alone
+  ticks_on : (r : Reading) → guard t s r ≡ 0 → ¬ (r ≡ Ok Reset) → Stopped s (led s r)
+  ticks_on = each_step (λ r. ¬ (r ≡ Ok Reset) → Stopped s (led s r)) t s ticks_alone
 
 ends : (k over : ℕ) (s : State) (rest : Outcome) → (k ≡ 0 → Stopped s rest.state) → Stopped s (after k over s rest).state
 ends zero over s rest f = f refl

@@ -11,7 +11,7 @@ use borrow.Author.Tests.{eqb-true, eqb-false}
 use Rattle.checks.proofs.Tests.{case}
 use Rattle.limits.specs.declared.Table.{Table}
 use Rattle.shift.specs.declared.State.{State}
-use Rattle.shift.specs.declared.Reading.{Reading}
+use Rattle.shift.specs.Readings.{Reading}
 use Rattle.shift.specs.Answers.{guard, led, excess}
 use Rattle.shift.specs.Runs.{Outcome, after, run}
 use Rattle.promises.specs.Allowed.{Permitted}

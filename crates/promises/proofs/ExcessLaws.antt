@@ -9,6 +9,7 @@ use native.Mathlib.Decide.{dec_lt}
 use native.Mathlib.Omega.{arith}
 use lib.Dec.{T, leb, le→leb, nleb→lt}
 use borrow.Author.Tests.{lt-leb}
+use Rattle.std.specs.Prelude.{Ok, Err}
 use Rattle.checks.specs.Checks.{◌!◌}
 use Rattle.checks.proofs.Checks.{within, at_most}
 use Rattle.checks.proofs.Tests.{tests}
@@ -18,8 +19,8 @@ use Rattle.phases.proofs.ByPhaseLaws.{among, ex_in_lem}
 use Rattle.shift.specs.declared.State.{State}
 use Rattle.shift.specs.declared.Step.{Step}
 use Rattle.shift.specs.declared.Step.TheVariants.{FromNeutral, GearToGear, ToNeutral, Deliver, DeviceGood, DeviceFailed, EngineWaits, Take, AskClutch, RaiseError, Finish, Tick, Reset}
-use Rattle.shift.specs.declared.Reading.{Reading}
-use Rattle.shift.specs.declared.Reading.TheVariants.{Means, WrongCode, WrongAmount}
+use Rattle.shift.specs.Readings.{Reading}
+use Rattle.shift.specs.declared.Misread.TheVariants.{WrongCode, WrongAmount}
 use Rattle.shift.specs.Steps.{shifts_in, in_device, in_engine, good_bound, failed_bound, in_report_time, in_take_time, ask_bound, in_ask_time, stage_bound, phase_bound, limited, in_tick_time, effect}
 use Rattle.shift.specs.Excess.{early_bound}
 use Rattle.shift.specs.Answers.{listed, checks, guard, excess}
@@ -100,15 +101,15 @@ held false x y h = let l = nleb→lt 0 y h in absurd (omega arith)
 -- ---- each step's answer
 module _ (t : Table) (s : State) where
   abbrev Far : Step → ℕ → Type 0
-  Far x k = HowFar t s (code_of x) (amount_of x) k (excess t s (Means x) k)
+  Far x k = HowFar t s (code_of x) (amount_of x) k (excess t s (Ok x) k)
 
   carries_nothing : (x : Step) (k : ℕ) → k < 9 → Far x k
   carries_nothing x k l = rw (none_below_9 t s (early_bound t s x) (effect s x).clock k l) (nothing t s (code_of x) (amount_of x) k l)
 
-  untimed : (x : Step) → T (within 0 8 (checks t s (Means x))) → Far x (guard t s (Means x))
-  untimed x h = let l = at_most 8 (checks t s (Means x)) h in carries_nothing x (guard t s (Means x)) (omega arith)
+  untimed : (x : Step) → T (within 0 8 (checks t s (Ok x))) → Far x (guard t s (Ok x))
+  untimed x h = let l = at_most 8 (checks t s (Ok x)) h in carries_nothing x (guard t s (Ok x)) (omega arith)
 
-  take : Far Take (guard t s (Means Take))
+  take : Far Take (guard t s (Ok Take))
   take =
       behind (Far Take) (listed s ++ shifts_in s 3) (in_take_time t s) 7 tt (λ _. carries_nothing Take 7 (omega arith))
       (λ h.
@@ -154,7 +155,7 @@ module _ (t : Table) (s : State) where
       → (c : ℕ) → (c < bound) ↔ TooEarly t (at_clock c s) code
   at_any_clock code bound o same c = (λ l. (same c).0 (o, l), λ q. ((same c).1 q).1)
 
-  good : Far DeviceGood (guard t s (Means DeviceGood))
+  good : Far DeviceGood (guard t s (Ok DeviceGood))
   good =
       behind (Far DeviceGood) (listed s ++ shifts_in s 2) (in_report_time s (good_bound t s)) 7 tt (λ _. carries_nothing DeviceGood 7 (omega arith))
       (λ h.
@@ -164,7 +165,7 @@ module _ (t : Table) (s : State) where
       let w = too_early s (good_bound t s) z e in
       early_by 5 0 (good_bound t s) (at_any_clock 5 (good_bound t s) w.0 (λ c. good_too_early t (at_clock c s) 0 z)) w.1))
 
-  failed : Far DeviceFailed (guard t s (Means DeviceFailed))
+  failed : Far DeviceFailed (guard t s (Ok DeviceFailed))
   failed =
       behind (Far DeviceFailed) (listed s ++ (shifts_in s 2 ++ in_device s)) (in_report_time s (failed_bound t s)) 7 tt (λ _. carries_nothing DeviceFailed 7 (omega arith))
       (λ h.
@@ -174,7 +175,7 @@ module _ (t : Table) (s : State) where
       let w = too_early s (failed_bound t s) z e in
       early_by 6 0 (failed_bound t s) (at_any_clock 6 (failed_bound t s) w.0 (λ c. failed_too_early t (at_clock c s) 0 z)) w.1))
 
-  ask : Far AskClutch (guard t s (Means AskClutch))
+  ask : Far AskClutch (guard t s (Ok AskClutch))
   ask =
       behind (Far AskClutch) (listed s ++ (shifts_in s 5 ++ in_engine s)) (in_ask_time t s) 7 tt (λ _. carries_nothing AskClutch 7 (omega arith))
       (λ h.
@@ -219,7 +220,7 @@ module _ (t : Table) (s : State) where
           none = λ k. absurd (k (inr (inr (inl refl))));
         }
 
-    tick : Far (Tick n) (guard t s (Means (Tick n)))
+    tick : Far (Tick n) (guard t s (Ok (Tick n)))
     tick =
         behind (Far (Tick n)) (listed s) (in_tick_time t s now) 7 tt (λ _. carries_nothing (Tick n) 7 (omega arith))
         (λ h.
@@ -230,7 +231,7 @@ module _ (t : Table) (s : State) where
         past_12)
         past_13)
 
-  far : (x : Step) → Far x (guard t s (Means x))
+  far : (x : Step) → Far x (guard t s (Ok x))
   far FromNeutral = untimed FromNeutral tt
   far GearToGear = untimed GearToGear tt
   far ToNeutral = untimed ToNeutral tt
@@ -248,11 +249,11 @@ module _ (t : Table) (s : State) where
   pub how_far :
       (code middle amount : ℕ) (r : Reading) → Reads code middle amount r
       → HowFar t s code amount (guard t s r) (excess t s r (guard t s r))
-  how_far code middle amount (Means x) h =
-      subst (λ (c : ℕ). HowFar t s c amount (guard t s (Means x)) (excess t s (Means x) (guard t s (Means x)))) h.2
-      (subst (λ (n : ℕ). HowFar t s (code_of x) n (guard t s (Means x)) (excess t s (Means x) (guard t s (Means x)))) h.3 (far x))
-  how_far code middle amount WrongCode h = nothing t s code amount 5 (omega arith)
-  how_far code middle amount WrongAmount h = nothing t s code amount 6 (omega arith)
+  how_far code middle amount (Ok x) h =
+      subst (λ (c : ℕ). HowFar t s c amount (guard t s (Ok x)) (excess t s (Ok x) (guard t s (Ok x)))) h.2
+      (subst (λ (n : ℕ). HowFar t s (code_of x) n (guard t s (Ok x)) (excess t s (Ok x) (guard t s (Ok x)))) h.3 (far x))
+  how_far code middle amount (Err WrongCode) h = nothing t s code amount 5 (omega arith)
+  how_far code middle amount (Err WrongAmount) h = nothing t s code amount 6 (omega arith)
 
 -- ---- and nothing else is
 module _ (t : Table) (s : State) (code : ℕ) (d e : ℕ) where

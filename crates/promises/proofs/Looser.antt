@@ -7,6 +7,7 @@ use Prim.Native.Nat.{ℕ, ◌≤◌, ◌<◌}
 use native.Mathlib.Omega.{arith}
 use lib.Dec.{T, leb}
 use lib.ListN.{get_or}
+use Rattle.std.specs.Prelude.{Ok}
 use Rattle.checks.proofs.Tests.{tests}
 use Rattle.checks.proofs.Checks.{Holds, holds→first}
 use Rattle.checks.proofs.Ranges.{below}
@@ -16,8 +17,7 @@ use Rattle.limits.proofs.TighterLaws.{later_takes, sooner_asks, sooner_reports}
 use Rattle.phases.specs.Phases.{clutch_order, order_of, device_limit, phase_limit, latest_take, earliest_ask, plain_delay, error_delay}
 use Rattle.phases.proofs.PhaseLaws.{orders}
 use Rattle.shift.specs.declared.State.{State}
-use Rattle.shift.specs.declared.Reading.{Reading}
-use Rattle.shift.specs.declared.Reading.TheVariants.{Means}
+use Rattle.shift.specs.Readings.{Reading}
 use Rattle.shift.specs.declared.Step.{Step}
 use Rattle.shift.specs.declared.Step.TheVariants.{FromNeutral, GearToGear, ToNeutral, Deliver, DeviceGood, DeviceFailed, EngineWaits, Take, AskClutch, RaiseError, Finish, Tick, Reset}
 use Rattle.shift.specs.Steps.{good_bound, failed_bound}
@@ -57,7 +57,7 @@ module _ (t u : Table) (l : NowhereTighter t u) where
 
   module _ (s : State) where
     -- what the first table checks of a step, the second checks
-    kept : (x : Step) → Holds (checks t s (Means x)) → Holds (checks u s (Means x))
+    kept : (x : Step) → Holds (checks t s (Ok x)) → Holds (checks u s (Ok x))
     kept FromNeutral h = h
     kept GearToGear h = h
     kept ToNeutral h = h
@@ -90,7 +90,7 @@ module _ (t u : Table) (l : NowhereTighter t u) where
     kept Reset h = h
 
     accepts : (r : Reading) → guard t s r ≡ 0 → guard u s r ≡ 0
-    accepts = each_step (λ r. guard u s r ≡ 0) t s (λ x h. holds→first (checks u s (Means x)) (kept x h))
+    accepts = each_step (λ r. guard u s r ≡ 0) t s (λ x h. holds→first (checks u s (Ok x)) (kept x h))
 
   pub same_run : (s : State) (rs : List Reading) → (run t s rs).number ≡ 0 → run u s rs ≡ run t s rs
   same_run s [] e = refl

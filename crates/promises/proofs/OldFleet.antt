@@ -12,6 +12,7 @@ use borrow.Author.Tests.{le-leb, lt-leb, eqb-true, eqb-false}
 use contract.Lifetimes.{Lfts}
 use denote.Triple.Entry.{Args}
 use denote.Triple.Clauses.{AtExit}
+use Rattle.std.specs.Prelude.{Ok, Err}
 use Rattle.checks.specs.Checks.{Check, first, numbered}
 use Rattle.checks.proofs.Checks.{Holds, first→holds, holds→first, first_alone, first_left, first_right}
 use Rattle.checks.proofs.Ranges.{below}
@@ -26,8 +27,8 @@ use Rattle.phases.proofs.PhaseLaws.{no_limit}
 use Rattle.phases.proofs.ByPhaseLaws.{open_or_close_of}
 use Rattle.shift.specs.declared.State.{State}
 use Rattle.shift.specs.declared.Answer.{Answer}
-use Rattle.shift.specs.declared.Reading.{Reading}
-use Rattle.shift.specs.declared.Reading.TheVariants.{Means, WrongCode, WrongAmount}
+use Rattle.shift.specs.Readings.{Reading}
+use Rattle.shift.specs.declared.Misread.TheVariants.{WrongCode, WrongAmount}
 use Rattle.shift.specs.declared.Step.{Step}
 use Rattle.shift.specs.declared.Step.TheVariants.{FromNeutral, GearToGear, ToNeutral, Deliver, DeviceGood, DeviceFailed, EngineWaits, Take, AskClutch, RaiseError, Finish, Tick, Reset}
 use Rattle.shift.specs.States.{start, working}
@@ -75,41 +76,41 @@ module _ (t : Table) (z : NoDelays t) where
         (λ e. rw (e, le-leb 0 s.clock zero-le))
 
     same_guard : s.stage_time ≤ s.clock → (r : Reading) → guard_before t s r ≡ guard t s r
-    same_guard k (Means FromNeutral) = refl
-    same_guard k (Means GearToGear) = refl
-    same_guard k (Means ToNeutral) = refl
-    same_guard k (Means Deliver) = refl
-    same_guard k (Means DeviceGood) =
+    same_guard k (Ok FromNeutral) = refl
+    same_guard k (Ok GearToGear) = refl
+    same_guard k (Ok ToNeutral) = refl
+    same_guard k (Ok Deliver) = refl
+    same_guard k (Ok DeviceGood) =
         sym (first_alone (listed s ++ shifts_in s working) (in_report_time s (good_bound t s)) (in_time (good_bound t s) (let e = good_bound_lem in omega arith)))
-    same_guard k (Means DeviceFailed) =
+    same_guard k (Ok DeviceFailed) =
         sym (first_alone (listed s ++ (shifts_in s working ++ in_device s)) (in_report_time s (failed_bound t s)) (in_time (failed_bound t s) (let e = failed_bound_lem in omega arith)))
-    same_guard k (Means EngineWaits) = refl
-    same_guard k (Means Take) = refl
-    same_guard k (Means AskClutch) = refl
-    same_guard k (Means RaiseError) = refl
-    same_guard k (Means Finish) = refl
-    same_guard k (Means (Tick n)) = refl
-    same_guard k (Means Reset) = refl
-    same_guard k WrongCode = refl
-    same_guard k WrongAmount = refl
+    same_guard k (Ok EngineWaits) = refl
+    same_guard k (Ok Take) = refl
+    same_guard k (Ok AskClutch) = refl
+    same_guard k (Ok RaiseError) = refl
+    same_guard k (Ok Finish) = refl
+    same_guard k (Ok (Tick n)) = refl
+    same_guard k (Ok Reset) = refl
+    same_guard k (Err WrongCode) = refl
+    same_guard k (Err WrongAmount) = refl
 
 -- no step leaves it ahead
 not_ahead : (s : State) → s.stage_time ≤ s.clock → (r : Reading) → (led s r).stage_time ≤ (led s r).clock
-not_ahead s k (Means FromNeutral) = omega arith
-not_ahead s k (Means GearToGear) = omega arith
-not_ahead s k (Means ToNeutral) = omega arith
-not_ahead s k (Means Deliver) = omega arith
-not_ahead s k (Means DeviceGood) = omega arith
-not_ahead s k (Means DeviceFailed) = omega arith
-not_ahead s k (Means EngineWaits) = omega arith
-not_ahead s k (Means Take) = omega arith
-not_ahead s k (Means AskClutch) = omega arith
-not_ahead s k (Means RaiseError) = omega arith
-not_ahead s k (Means Finish) = omega arith
-not_ahead s k (Means (Tick n)) = omega arith
-not_ahead s k (Means Reset) = omega arith
-not_ahead s k WrongCode = k
-not_ahead s k WrongAmount = k
+not_ahead s k (Ok FromNeutral) = omega arith
+not_ahead s k (Ok GearToGear) = omega arith
+not_ahead s k (Ok ToNeutral) = omega arith
+not_ahead s k (Ok Deliver) = omega arith
+not_ahead s k (Ok DeviceGood) = omega arith
+not_ahead s k (Ok DeviceFailed) = omega arith
+not_ahead s k (Ok EngineWaits) = omega arith
+not_ahead s k (Ok Take) = omega arith
+not_ahead s k (Ok AskClutch) = omega arith
+not_ahead s k (Ok RaiseError) = omega arith
+not_ahead s k (Ok Finish) = omega arith
+not_ahead s k (Ok (Tick n)) = omega arith
+not_ahead s k (Ok Reset) = omega arith
+not_ahead s k (Err WrongCode) = k
+not_ahead s k (Err WrongAmount) = k
 
 -- ---- tables: rule 16 is kept by four zeros
 pub admitted_as_before : (t : Table) → NoDelays t → rule_before t ≡ broken_rule t
@@ -134,8 +135,8 @@ module _ (t : Table) (z : NoDelays t) (s : State) where
   -- what is asked before the time, and then the time: refused by it is what lies ahead
   kept :
       (x : Step) (own : List Check) (bound : ℕ) → bound ≡ s.stage_time
-      → (first own ≡ 0 → Listed s × Shifting s × (s.stage ≡ 2)) → (Means x ≡ Means DeviceGood) ⊎ (Means x ≡ Means DeviceFailed)
-      → ¬ Ahead s (Means x)
+      → (first own ≡ 0 → Listed s × Shifting s × (s.stage ≡ 2)) → (◌≡◌ {A = Reading} (Ok x) (Ok DeviceGood)) ⊎ (◌≡◌ {A = Reading} (Ok x) (Ok DeviceFailed))
+      → ¬ Ahead s (Ok x)
       → first own ≡ first (own ++ in_report_time s bound)
   kept x own bound e works which n =
       case (eqb (first own) 0)
@@ -150,25 +151,25 @@ module _ (t : Table) (z : NoDelays t) (s : State) where
       (λ q. sym (first_left own (in_report_time s bound) (eqb-false (first own) 0 q)))
 
   pub as_before : (r : Reading) → ¬ Ahead s r → guard_before t s r ≡ guard t s r
-  as_before (Means FromNeutral) n = refl
-  as_before (Means GearToGear) n = refl
-  as_before (Means ToNeutral) n = refl
-  as_before (Means Deliver) n = refl
-  as_before (Means DeviceGood) n =
+  as_before (Ok FromNeutral) n = refl
+  as_before (Ok GearToGear) n = refl
+  as_before (Ok ToNeutral) n = refl
+  as_before (Ok Deliver) n = refl
+  as_before (Ok DeviceGood) n =
       let own = listed s ++ shifts_in s working in
       kept DeviceGood own (good_bound t s) (good_bound_lem t z s) (λ e. let h = (first→holds 0 own tt e).0 in omega (arith, tests)) (inl refl) n
-  as_before (Means DeviceFailed) n =
+  as_before (Ok DeviceFailed) n =
       let own = listed s ++ (shifts_in s working ++ in_device s) in
       kept DeviceFailed own (failed_bound t s) (failed_bound_lem t z s) (λ e. let h = (first→holds 0 own tt e).0 in omega (arith, tests)) (inr refl) n
-  as_before (Means EngineWaits) n = refl
-  as_before (Means Take) n = refl
-  as_before (Means AskClutch) n = refl
-  as_before (Means RaiseError) n = refl
-  as_before (Means Finish) n = refl
-  as_before (Means (Tick n)) m = refl
-  as_before (Means Reset) n = refl
-  as_before WrongCode n = refl
-  as_before WrongAmount n = refl
+  as_before (Ok EngineWaits) n = refl
+  as_before (Ok Take) n = refl
+  as_before (Ok AskClutch) n = refl
+  as_before (Ok RaiseError) n = refl
+  as_before (Ok Finish) n = refl
+  as_before (Ok (Tick n)) m = refl
+  as_before (Ok Reset) n = refl
+  as_before (Err WrongCode) n = refl
+  as_before (Err WrongAmount) n = refl
 
   -- and what lies ahead was accepted, and is too early by how far it lies ahead
   pub record Otherwise (r : Reading) : Type 0 where
@@ -182,7 +183,7 @@ module _ (t : Table) (z : NoDelays t) (s : State) where
       first_right own (in_report_time s bound) h ∙ rw (c, lt-leb bound s.clock (omega arith))
 
   module _ (l : Listed s) (o : OpenOrClose s) (g : s.stage ≡ 2) (ahead : s.clock < s.stage_time) where
-    good_otherwise : Otherwise (Means DeviceGood)
+    good_otherwise : Otherwise (Ok DeviceGood)
     good_otherwise =
         let p = open_or_close_of s.phase o in
         let own = listed s ++ shifts_in s working in
@@ -193,7 +194,7 @@ module _ (t : Table) (z : NoDelays t) (s : State) where
           by = ap (λ b. b - s.clock) (good_bound_lem t z s);
         }
 
-    failed_otherwise : Otherwise (Means DeviceFailed)
+    failed_otherwise : Otherwise (Ok DeviceFailed)
     failed_otherwise =
         let p = open_or_close_of s.phase o in
         let order = left (leb 3 (order_of s.phase)) (leb (order_of s.phase) 4) p.0 in

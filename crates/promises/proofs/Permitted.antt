@@ -4,14 +4,15 @@ use mathlib.Core.Path.{◌≡◌}
 use mathlib.Core.Logic.{⊎_elim, ◌↔◌}
 use Prim.Native.Nat.{◌+◌, ◌≤◌}
 use native.Mathlib.Omega.{arith}
+use Rattle.std.specs.Prelude.{Ok, Err}
 use Rattle.checks.proofs.Tests.{tests}
 use Rattle.checks.proofs.Checks.{Holds, holds→first}
 use Rattle.limits.specs.declared.Table.{Table}
 use Rattle.phases.specs.Phases.{order_of}
 use Rattle.phases.proofs.ByPhaseLaws.{de_in_lem, plain_delay_in_lem, error_delay_in_lem}
 use Rattle.shift.specs.declared.State.{State}
-use Rattle.shift.specs.declared.Reading.{Reading}
-use Rattle.shift.specs.declared.Reading.TheVariants.{Means, WrongCode, WrongAmount}
+use Rattle.shift.specs.Readings.{Reading}
+use Rattle.shift.specs.declared.Misread.TheVariants.{WrongCode, WrongAmount}
 use Rattle.shift.specs.declared.Step.{Step}
 use Rattle.shift.specs.declared.Step.TheVariants.{FromNeutral, GearToGear, ToNeutral, Deliver, DeviceGood, DeviceFailed, EngineWaits, Take, AskClutch, RaiseError, Finish, Tick, Reset}
 use Rattle.shift.specs.Steps.{good_bound, failed_bound}
@@ -22,7 +23,7 @@ use Rattle.promises.proofs.PlaceLaws.{within_ex, within_report, within_stage, wi
 
 -- ---- what the checks of a step say, in the document's words
 module _ (t : Table) (s : State) where
-  pub said : (x : Step) → Holds (checks t s (Means x)) → Permitted t s (Means x)
+  pub said : (x : Step) → Holds (checks t s (Ok x)) → Permitted t s (Ok x)
   said FromNeutral h = omega (arith, tests)
   said GearToGear h = omega (arith, tests)
   said ToNeutral h = omega (arith, tests)
@@ -67,7 +68,7 @@ module _ (t : Table) (s : State) where
   said Reset h = omega (arith, tests)
 
   -- and the other way
-  pub meant : (x : Step) → Permitted t s (Means x) → Holds (checks t s (Means x))
+  pub meant : (x : Step) → Permitted t s (Ok x) → Holds (checks t s (Ok x))
   meant FromNeutral h = omega (arith, tests)
   meant GearToGear h = omega (arith, tests)
   meant ToNeutral h = omega (arith, tests)
@@ -122,6 +123,6 @@ module _ (t : Table) (s : State) where
 
 -- ---- the guard answers 0 exactly where what was read is permitted
 pub permitted : (t : Table) (s : State) (r : Reading) → (guard t s r ≡ 0) ↔ Permitted t s r
-permitted t s (Means x) = (λ e. said t s x (checked t s x e), λ p. holds→first (checks t s (Means x)) (meant t s x p))
-permitted t s WrongCode = (λ e. absurd (omega arith), λ p. absurd p)
-permitted t s WrongAmount = (λ e. absurd (omega arith), λ p. absurd p)
+permitted t s (Ok x) = (λ e. said t s x (checked t s x e), λ p. holds→first (checks t s (Ok x)) (meant t s x p))
+permitted t s (Err WrongCode) = (λ e. absurd (omega arith), λ p. absurd p)
+permitted t s (Err WrongAmount) = (λ e. absurd (omega arith), λ p. absurd p)

@@ -10,7 +10,7 @@ use Rattle.limits.specs.declared.Table.{Table}
 use Rattle.limits.specs.Rules.{broken_rule}
 use Rattle.limits.specs.Tighter.{NowhereTighter}
 use Rattle.shift.specs.declared.State.{State}
-use Rattle.shift.specs.declared.Reading.{Reading}
+use Rattle.shift.specs.Readings.{Reading}
 use Rattle.shift.specs.States.{start}
 use Rattle.shift.specs.Answers.{guard, led}
 use Rattle.shift.specs.Runs.{Outcome, run}

@@ -7,6 +7,7 @@ use mathlib.Core.List.{List, [], ◌∷◌, ◌++◌, append-nil}
 use Prim.Native.Nat.{ℕ, ◌+◌, ◌≤◌, ◌<◌}
 use native.Mathlib.Omega.{arith}
 use lib.Dec.{T, leb, eqb, eqb→eq}
+use Rattle.std.specs.Prelude.{Ok, Err}
 use Rattle.checks.specs.Checks.{Check, ◌!◌, first}
 use Rattle.checks.proofs.Checks.{Holds}
 use Rattle.checks.specs.Conditions.{Condition, ◌gives◌, FirstOf, OneOf}
@@ -18,8 +19,8 @@ use Rattle.phases.proofs.ByPhaseLaws.{each, de_in_lem, plain_delay_in_lem, error
 use Rattle.shift.specs.declared.State.{State}
 use Rattle.shift.specs.declared.Step.{Step}
 use Rattle.shift.specs.declared.Step.TheVariants.{FromNeutral, GearToGear, ToNeutral, Deliver, DeviceGood, DeviceFailed, EngineWaits, Take, AskClutch, RaiseError, Finish, Tick, Reset}
-use Rattle.shift.specs.declared.Reading.{Reading}
-use Rattle.shift.specs.declared.Reading.TheVariants.{Means, WrongCode, WrongAmount}
+use Rattle.shift.specs.Readings.{Reading}
+use Rattle.shift.specs.declared.Misread.TheVariants.{WrongCode, WrongAmount}
 use Rattle.shift.specs.Steps.{rests_in, shifts_in, in_device, in_engine, in_report_time, in_take_time, in_ask_time, in_tick_time, good_bound, failed_bound, ask_bound}
 use Rattle.shift.specs.Answers.{reading, listed, checks, guard}
 use Rattle.promises.specs.Allowed.{Listed, Shifting, OpenOrClose, Permitted}
@@ -95,12 +96,12 @@ module _ (t : Table) (s : State) (amount : ℕ) where
 
   -- deliver, engine waits, raise error, finish and reset: 7
   placed :
-      (code : ℕ) (x : Step) → T (only 7 (checks t s (Means x)))
-      → (Permitted t s (Means x) ↔ (Listed s × ByCode (placings s) code))
+      (code : ℕ) (x : Step) → T (only 7 (checks t s (Ok x)))
+      → (Permitted t s (Ok x) ↔ (Listed s × ByCode (placings s) code))
       → (4 ≤ code) × (¬ (code ≡ 5) × ¬ (code ≡ 6) × ¬ (code ≡ 9)) × ¬ (code ≡ 8) × ¬ (code ≡ 12)
-      → FirstOf (from_7 t s code amount) (guard t s (Means x))
+      → FirstOf (from_7 t s code amount) (guard t s (Ok x))
   placed code x o same n =
-      let own = checks t s (Means x) in
+      let own = checks t s (Ok x) in
       subst (λ (cs : List Check). FirstOf (from_7 t s code amount) (first cs)) (append-nil own)
       (several own [] 7 (Misplaced s code) (from_8 t s code amount) o
       (λ h m. m (same.0 (said t s x h)))
@@ -124,7 +125,7 @@ module _ (t : Table) (s : State) (amount : ℕ) where
       (λ b. untimed code (omega arith)))
 
   -- take: 7 and 10
-  take : FirstOf (from_7 t s 8 amount) (guard t s (Means Take))
+  take : FirstOf (from_7 t s 8 amount) (guard t s (Ok Take))
   take =
       several (listed s ++ shifts_in s 3) (in_take_time t s) 7 (Misplaced s 8) (from_8 t s 8 amount) tt
       (λ h m. m (omega (arith, tests)))
@@ -177,14 +178,14 @@ module _ (t : Table) (s : State) (amount : ℕ) where
         ⊎_elim (λ w. let l = w.1 in omega arith) (⊎_elim (λ w. absurd (let e = w.0 in omega arith)) (λ w. absurd (let e = w.0 in omega arith))),
       )
 
-  good : FirstOf (from_7 t s 5 amount) (guard t s (Means DeviceGood))
+  good : FirstOf (from_7 t s 5 amount) (guard t s (Ok DeviceGood))
   good =
       several (listed s ++ shifts_in s 2) (in_report_time s (good_bound t s)) 7 (Misplaced s 5) (from_8 t s 5 amount) tt
       (λ h m. m (omega (arith, tests)))
       (λ n p. n (omega (arith, tests)))
       (λ h. let z : Shifting s = omega (arith, tests) in reported 5 (good_bound t s) (omega arith) z (good_too_early z))
 
-  failed : FirstOf (from_7 t s 6 amount) (guard t s (Means DeviceFailed))
+  failed : FirstOf (from_7 t s 6 amount) (guard t s (Ok DeviceFailed))
   failed =
       several (listed s ++ (shifts_in s 2 ++ in_device s)) (in_report_time s (failed_bound t s)) 7 (Misplaced s 6) (from_8 t s 6 amount) tt
       (λ h m. m (omega (arith, tests), (omega (arith, tests), omega (arith, tests), λ e. let o = engine_order s e in omega (arith, tests))))
@@ -192,7 +193,7 @@ module _ (t : Table) (s : State) (amount : ℕ) where
       (λ h. let z : Shifting s = omega (arith, tests) in reported 6 (failed_bound t s) (omega arith) z (failed_too_early z))
 
   -- ask clutch: 7 and 9
-  ask : FirstOf (from_7 t s 9 amount) (guard t s (Means AskClutch))
+  ask : FirstOf (from_7 t s 9 amount) (guard t s (Ok AskClutch))
   ask =
       several (listed s ++ (shifts_in s 5 ++ in_engine s)) (in_ask_time t s) 7 (Misplaced s 9) (from_8 t s 9 amount) tt
       (λ h m. m (omega (arith, tests), (engine_phase s (omega (arith, tests)) (omega (arith, tests)), omega (arith, tests))))
@@ -209,7 +210,7 @@ module _ (t : Table) (s : State) (amount : ℕ) where
       ))
 
   -- a tick: 7, 13, 12 and 11
-  tick : FirstOf (from_7 t s 12 amount) (guard t s (Means (Tick amount)))
+  tick : FirstOf (from_7 t s 12 amount) (guard t s (Ok (Tick amount)))
   tick =
       let now = s.clock + amount in
       several (listed s) (in_tick_time t s now) 7 (Misplaced s 12) (from_8 t s 12 amount) tt
@@ -262,7 +263,7 @@ module _ (s : State) where
       let l = each (λ k. 2 ≤ k) (2 ∷ 3 ∷ []) (omega arith) code o in
       (λ p. (p.0, inr (o, p.1)), λ w. (w.0, ⊎_elim (λ e. absurd (let q = e.0 in omega arith)) (λ e. e.1) w.1))
 
-on_state : (t : Table) (s : State) (x : Step) → FirstOf (from_7 t s (code_of x) (amount_of x)) (guard t s (Means x))
+on_state : (t : Table) (s : State) (x : Step) → FirstOf (from_7 t s (code_of x) (amount_of x)) (guard t s (Ok x))
 on_state t s FromNeutral = request t s 0 1 0 (omega arith) (λ p. p, λ p. p) (not_neutral s)
 on_state t s GearToGear = request t s 0 2 1 (omega arith) (λ p. p, λ p. p) (not_in_gear s 2 (inl refl))
 on_state t s ToNeutral = request t s 0 3 1 (omega arith) (λ p. p, λ p. p) (not_in_gear s 3 (inr (inl refl)))
@@ -280,17 +281,17 @@ on_state t s Reset = placed t s 0 13 Reset tt (λ p. p, λ p. p) (omega arith)
 -- ---- by what was read
 module _ (t : Table) (s : State) (code middle amount : ℕ) where
   of_reading : (r : Reading) → Reads code middle amount r → FirstOf (record_refusals t s code middle amount) (guard t s r)
-  of_reading (Means x) h =
+  of_reading (Ok x) h =
       inr (
         h.0,
         inr (
           λ n. n h.1,
-          subst (λ (c : ℕ). FirstOf (from_7 t s c amount) (guard t s (Means x))) h.2
-              (subst (λ (n : ℕ). FirstOf (from_7 t s (code_of x) n) (guard t s (Means x))) h.3 (on_state t s x)),
+          subst (λ (c : ℕ). FirstOf (from_7 t s c amount) (guard t s (Ok x))) h.2
+              (subst (λ (n : ℕ). FirstOf (from_7 t s (code_of x) n) (guard t s (Ok x))) h.3 (on_state t s x)),
         ),
       )
-  of_reading WrongCode h = inl (h, refl)
-  of_reading WrongAmount h = inr (h.0, inl (h.1, refl))
+  of_reading (Err WrongCode) h = inl (h, refl)
+  of_reading (Err WrongAmount) h = inr (h.0, inl (h.1, refl))
 
 -- the number of a record, under a table that has been tested
 pub first_refusal :

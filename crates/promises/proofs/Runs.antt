@@ -6,11 +6,12 @@ use Prim.Native.Nat.{ℕ, zero, suc, ◌+◌}
 use native.Mathlib.Nat.{zero-add, suc-add}
 use native.Mathlib.Omega.{arith}
 use lib.Dec.{T}
+use Rattle.std.specs.Prelude.{Ok, Err}
 use Rattle.checks.proofs.Checks.{Holds, absent, first→holds}
 use Rattle.limits.specs.declared.Table.{Table}
 use Rattle.shift.specs.declared.State.{State}
-use Rattle.shift.specs.declared.Reading.{Reading}
-use Rattle.shift.specs.declared.Reading.TheVariants.{Means, WrongCode, WrongAmount}
+use Rattle.shift.specs.Readings.{Reading}
+use Rattle.shift.specs.declared.Misread.TheVariants.{WrongCode, WrongAmount}
 use Rattle.shift.specs.declared.Step.{Step}
 use Rattle.shift.specs.declared.Step.TheVariants.{FromNeutral, GearToGear, ToNeutral, Deliver, DeviceGood, DeviceFailed, EngineWaits, Take, AskClutch, RaiseError, Finish, Tick, Reset}
 use Rattle.shift.specs.declared.Answer.{Answer}
@@ -18,7 +19,7 @@ use Rattle.shift.specs.Answers.{checks, guard, led, excess, answer, judged}
 use Rattle.shift.specs.Runs.{Outcome, after, run}
 
 -- no check has the number 0
-numbered_from_5 : (t : Table) (s : State) (x : Step) → T (absent 0 (checks t s (Means x)))
+numbered_from_5 : (t : Table) (s : State) (x : Step) → T (absent 0 (checks t s (Ok x)))
 numbered_from_5 t s FromNeutral = tt
 numbered_from_5 t s GearToGear = tt
 numbered_from_5 t s ToNeutral = tt
@@ -34,16 +35,16 @@ numbered_from_5 t s (Tick n) = tt
 numbered_from_5 t s Reset = tt
 
 -- of an accepted step all checks hold
-pub checked : (t : Table) (s : State) (x : Step) → guard t s (Means x) ≡ 0 → Holds (checks t s (Means x))
-checked t s x e = (first→holds 0 (checks t s (Means x)) (numbered_from_5 t s x) e).0
+pub checked : (t : Table) (s : State) (x : Step) → guard t s (Ok x) ≡ 0 → Holds (checks t s (Ok x))
+checked t s x e = (first→holds 0 (checks t s (Ok x)) (numbered_from_5 t s x) e).0
 
 -- what every accepted step is shown to have, every accepted reading has
 pub each_step :
-    (P : Reading → Type 0) (t : Table) (s : State) → ((x : Step) → Holds (checks t s (Means x)) → P (Means x))
+    (P : Reading → Type 0) (t : Table) (s : State) → ((x : Step) → Holds (checks t s (Ok x)) → P (Ok x))
     → (r : Reading) → guard t s r ≡ 0 → P r
-each_step P t s f (Means x) e = f x (checked t s x e)
-each_step P t s f WrongCode e = absurd (omega arith)
-each_step P t s f WrongAmount e = absurd (omega arith)
+each_step P t s f (Ok x) e = f x (checked t s x e)
+each_step P t s f (Err WrongCode) e = absurd (omega arith)
+each_step P t s f (Err WrongAmount) e = absurd (omega arith)
 
 -- a run that is accepted accepted its first step, and the rest
 pub went_on : (k over : ℕ) (s : State) (rest : Outcome) → (after k over s rest).number ≡ 0 → (k ≡ 0) × (rest.number ≡ 0)

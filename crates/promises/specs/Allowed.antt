@@ -2,13 +2,13 @@
 -- column "allowed when" as a relation, beside the list of checks that `shift` has. Phases, limits and delays are those of
 -- `phases/specs/ByPhase.antt`: with the checks it shares nothing but the fields of a state and of a table.
 -- Assumes nothing.
-use Rattle.std.specs.Prelude.{◌≡◌, [], ◌∷◌, ℕ, ◌+◌, ◌≤◌}
+use Rattle.std.specs.Prelude.{◌≡◌, [], ◌∷◌, ℕ, ◌+◌, ◌≤◌, Ok, Err}
 use Rattle.checks.specs.Conditions.{OneOf}
 use Rattle.limits.specs.declared.Table.{Table}
 use Rattle.phases.specs.ByPhase.{engine_phases, open_or_close_phases, device_limit_in, phase_limit_in, ex_in, de_in, plain_delay_in, error_delay_in}
 use Rattle.shift.specs.declared.State.{State}
-use Rattle.shift.specs.declared.Reading.{Reading}
-use Rattle.shift.specs.declared.Reading.TheVariants.{Means, WrongCode, WrongAmount}
+use Rattle.shift.specs.Readings.{Reading}
+use Rattle.shift.specs.declared.Misread.TheVariants.{WrongCode, WrongAmount}
 use Rattle.shift.specs.declared.Step.{Step}
 use Rattle.shift.specs.declared.Step.TheVariants.{FromNeutral, GearToGear, ToNeutral, Deliver, DeviceGood, DeviceFailed, EngineWaits, Take, AskClutch, RaiseError, Finish, Tick, Reset}
 
@@ -58,6 +58,6 @@ Allowed t s Reset = s.phase ≡ 23
 
 -- what was read of a record is allowed: it is a step, the state is listed, and the step is allowed in it
 abbrev pub Permitted : Table → State → Reading → Type 0
-Permitted t s (Means x) = Listed s × Allowed t s x
-Permitted t s WrongCode = ⊥
-Permitted t s WrongAmount = ⊥
+Permitted t s (Ok x) = Listed s × Allowed t s x
+Permitted t s (Err WrongCode) = ⊥
+Permitted t s (Err WrongAmount) = ⊥

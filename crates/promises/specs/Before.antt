@@ -2,11 +2,10 @@
 -- phases 19 and 21, and nothing else moved it; reset was no step. When the other steps are allowed is as today; OldFleet.antt has how that
 -- was before request 6.
 -- Assumes nothing.
-use Rattle.std.specs.Prelude.{cond, not, ◌&&◌, ◌||◌, ◌≡◌, List, [], ◌∷◌, eqb}
+use Rattle.std.specs.Prelude.{cond, not, ◌&&◌, ◌||◌, ◌≡◌, List, [], ◌∷◌, eqb, Ok}
 use Rattle.phases.specs.Phases.{done}
 use Rattle.shift.specs.declared.State.{State}
-use Rattle.shift.specs.declared.Reading.{Reading}
-use Rattle.shift.specs.declared.Reading.TheVariants.{Means}
+use Rattle.shift.specs.Readings.{Reading}
 use Rattle.shift.specs.declared.Step.TheVariants.{Reset}
 use Rattle.shift.specs.States.{neutral, in_gear}
 use Rattle.shift.specs.Steps.{boxed}
@@ -23,7 +22,7 @@ led_before s r =
 -- a list of the old twelve steps, and of records that do not read
 abbrev pub WithoutReset : List Reading → Type 0
 WithoutReset [] = Unit {0}
-WithoutReset (r ∷ rs) = ¬ (r ≡ Means Reset) × WithoutReset rs
+WithoutReset (r ∷ rs) = ¬ (r ≡ Ok Reset) × WithoutReset rs
 
 -- the same steps accepted, refused at the same record by the same number; at rest and in phase 22 the same state, elsewhere the same
 -- but for the box

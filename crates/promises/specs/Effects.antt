@@ -2,12 +2,12 @@
 -- column "effect" as a relation between the state before a step and the state after it, field by field. With the effects of `shift` it
 -- shares nothing but those fields.
 -- Assumes nothing.
-use Rattle.std.specs.Prelude.{◌≡◌, [], ◌∷◌, ℕ, ◌+◌}
+use Rattle.std.specs.Prelude.{◌≡◌, [], ◌∷◌, ℕ, ◌+◌, Ok, Err}
 use Rattle.checks.specs.Conditions.{OneOf}
 use Rattle.phases.specs.ByPhase.{set_phases, release_phases, next_phase, clutch_phase}
 use Rattle.shift.specs.declared.State.{State}
-use Rattle.shift.specs.declared.Reading.{Reading}
-use Rattle.shift.specs.declared.Reading.TheVariants.{Means, WrongCode, WrongAmount}
+use Rattle.shift.specs.Readings.{Reading}
+use Rattle.shift.specs.declared.Misread.TheVariants.{WrongCode, WrongAmount}
 use Rattle.shift.specs.declared.Step.{Step}
 use Rattle.shift.specs.declared.Step.TheVariants.{FromNeutral, GearToGear, ToNeutral, Deliver, DeviceGood, DeviceFailed, EngineWaits, Take, AskClutch, RaiseError, Finish, Tick, Reset}
 use Rattle.promises.specs.Allowed.{Shifting}
@@ -69,6 +69,6 @@ Effect s Reset s' = Into 0 0 s s' × BoxKept s s'
 
 -- what was read of a record makes s' of s: it is a step, with this effect
 abbrev pub Makes : State → Reading → State → Type 0
-Makes s (Means x) s' = Effect s x s'
-Makes s WrongCode s' = ⊥
-Makes s WrongAmount s' = ⊥
+Makes s (Ok x) s' = Effect s x s'
+Makes s (Err WrongCode) s' = ⊥
+Makes s (Err WrongAmount) s' = ⊥

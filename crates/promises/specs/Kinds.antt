@@ -1,11 +1,11 @@
 -- Document 01, "The limit table": the kinds of shifts, the sum of a kind, and the kind of the shift that a list of steps has open.
 -- Assumes nothing.
-use Rattle.std.specs.Prelude.{List, [], ◌∷◌, ℕ, ◌-◌, ◌≤◌, max}
+use Rattle.std.specs.Prelude.{List, [], ◌∷◌, ℕ, ◌-◌, ◌≤◌, max, Ok, Err}
 use Rattle.limits.specs.declared.Table.{Table}
 use Rattle.limits.specs.Limits.{sum_f, sum_n, sum_g1, sum_g2}
 use Rattle.shift.specs.declared.State.{State}
-use Rattle.shift.specs.declared.Reading.{Reading}
-use Rattle.shift.specs.declared.Reading.TheVariants.{Means, WrongCode, WrongAmount}
+use Rattle.shift.specs.Readings.{Reading}
+use Rattle.shift.specs.declared.Misread.TheVariants.{WrongCode, WrongAmount}
 use Rattle.shift.specs.declared.Step.TheVariants.{FromNeutral, GearToGear, ToNeutral, Deliver, DeviceGood, DeviceFailed, EngineWaits, Take, AskClutch, RaiseError, Finish, Tick, Reset}
 
 pub data Kind : Type 0 where
@@ -30,21 +30,21 @@ last_phase to_neutral = 21
 
 -- the kind after a step: a request's own, else as before
 abbrev pub kind_after : Kind → Reading → Kind
-kind_after k (Means FromNeutral) = from_neutral
-kind_after k (Means GearToGear) = gear_to_gear
-kind_after k (Means ToNeutral) = to_neutral
-kind_after k (Means Deliver) = k
-kind_after k (Means DeviceGood) = k
-kind_after k (Means DeviceFailed) = k
-kind_after k (Means EngineWaits) = k
-kind_after k (Means Take) = k
-kind_after k (Means AskClutch) = k
-kind_after k (Means RaiseError) = k
-kind_after k (Means Finish) = k
-kind_after k (Means (Tick n)) = k
-kind_after k (Means Reset) = k
-kind_after k WrongCode = k
-kind_after k WrongAmount = k
+kind_after k (Ok FromNeutral) = from_neutral
+kind_after k (Ok GearToGear) = gear_to_gear
+kind_after k (Ok ToNeutral) = to_neutral
+kind_after k (Ok Deliver) = k
+kind_after k (Ok DeviceGood) = k
+kind_after k (Ok DeviceFailed) = k
+kind_after k (Ok EngineWaits) = k
+kind_after k (Ok Take) = k
+kind_after k (Ok AskClutch) = k
+kind_after k (Ok RaiseError) = k
+kind_after k (Ok Finish) = k
+kind_after k (Ok (Tick n)) = k
+kind_after k (Ok Reset) = k
+kind_after k (Err WrongCode) = k
+kind_after k (Err WrongAmount) = k
 
 -- the kind of the last request of a list, k where it has none
 abbrev pub last_kind : Kind → List Reading → Kind

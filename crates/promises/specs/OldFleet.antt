@@ -1,15 +1,14 @@
 -- The rules before request 6, for the statement alone that nothing changed for the old fleet. Then device good and device failed were
 -- asked for phase and stage, and for no time, and a table had fifteen rules.
 -- Assumes nothing.
-use Rattle.std.specs.Prelude.{◌≡◌, ◌⊎◌, List, [], ◌∷◌, ◌++◌, ℕ, ◌<◌}
+use Rattle.std.specs.Prelude.{◌≡◌, ◌⊎◌, List, [], ◌∷◌, ◌++◌, ℕ, ◌<◌, Ok}
 use Rattle.checks.specs.Checks.{Check, first, numbered}
 use Rattle.limits.specs.declared.Table.{Table}
 use Rattle.limits.specs.Rules.{set_rule, engine_rules, device_rules, ask_rules, route_rules}
 use Rattle.shift.specs.declared.State.{State}
 use Rattle.shift.specs.declared.Step.{Step}
 use Rattle.shift.specs.declared.Step.TheVariants.{FromNeutral, GearToGear, ToNeutral, Deliver, DeviceGood, DeviceFailed, EngineWaits, Take, AskClutch, RaiseError, Finish, Tick, Reset}
-use Rattle.shift.specs.declared.Reading.{Reading}
-use Rattle.shift.specs.declared.Reading.TheVariants.{Means}
+use Rattle.shift.specs.Readings.{Reading}
 use Rattle.shift.specs.States.{working}
 use Rattle.shift.specs.Steps.{shifts_in, in_device, allowed}
 use Rattle.shift.specs.declared.Answer.{Answer}
@@ -56,4 +55,4 @@ pub record Ahead (s : State) (r : Reading) : Type 0 where
   pub phase : OpenOrClose s
   pub stage : s.stage ≡ 2
   pub time : s.clock < s.stage_time
-  pub step : (r ≡ Means DeviceGood) ⊎ (r ≡ Means DeviceFailed)
+  pub step : (r ≡ Ok DeviceGood) ⊎ (r ≡ Ok DeviceFailed)

@@ -1,10 +1,10 @@
 -- Document 01: what judging a list of steps answers, said of the answer alone.
 -- Assumes nothing.
-use Rattle.std.specs.Prelude.{◌≡◌, List, [], ◌∷◌, ℕ, ◌<◌, length, get_or, take}
+use Rattle.std.specs.Prelude.{◌≡◌, List, [], ◌∷◌, ℕ, ◌<◌, length, get_or, take, Err}
 use Rattle.limits.specs.declared.Table.{Table}
 use Rattle.shift.specs.declared.State.{State}
-use Rattle.shift.specs.declared.Reading.{Reading}
-use Rattle.shift.specs.declared.Reading.TheVariants.{WrongCode}
+use Rattle.shift.specs.Readings.{Reading}
+use Rattle.shift.specs.declared.Misread.TheVariants.{WrongCode}
 use Rattle.shift.specs.Answers.{guard, led, excess}
 use Rattle.shift.specs.Runs.{Outcome}
 use Rattle.promises.specs.Allowed.{Permitted}
@@ -16,7 +16,7 @@ leads s (r ∷ rs) = leads (led s r) rs
 
 -- what stands at an index of a list; past its end it is no step
 abbrev pub at : List Reading → ℕ → Reading
-at rs i = get_or rs i WrongCode
+at rs i = get_or rs i (Err WrongCode)
 
 -- Accepted up to exactly the step that the rules first forbid: each step before the count is allowed in the state that the steps
 -- before it lead to; where the number is not 0, the step at the count is refused with it, in the state that is given back, and so far

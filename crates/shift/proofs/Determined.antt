@@ -2,7 +2,9 @@
 -- Assumes nothing.
 use mathlib.Core.Path.{sym, ◌∙◌}
 use Rattle.checks.specs.Determined.{Determined}
-use Rattle.shift.proofs.Reading.refusal.Reads as refusal_reads
+use Rattle.shift.proofs.NumberLaws.{one_answer}
+use Rattle.shift.proofs.refusal.Reads as refusal_reads
+use Rattle.shift.proofs.Refused.number.Reads as number_reads
 use Rattle.shift.proofs.State.start.Reads as start_reads
 use Rattle.shift.proofs.State.step.Reads as step_reads
 use Rattle.shift.proofs.State.unlisted.Reads as unlisted_reads
@@ -19,7 +21,7 @@ pub step : Determined step_reads.Post
 step κs a x y at at' p q = p ∙ sym q
 
 pub unlisted : Determined unlisted_reads.Post
-unlisted κs a x y at at' p q = p ∙ sym q
+unlisted κs a x y at at' p q = one_answer x y (p ∙ sym q)
 
 pub judged_listed : Determined judged_listed_reads.Post
 judged_listed κs a x y at at' p q = p ∙ sym q
@@ -38,3 +40,6 @@ of_head κs a x y at at' p q = p ∙ sym q
 
 pub judged_step : Determined judged_step_reads.Post
 judged_step κs a x y at at' p q = p ∙ sym q
+
+pub number : Determined number_reads.Post
+number κs a x y at at' p q = p ∙ sym q

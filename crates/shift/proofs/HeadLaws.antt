@@ -9,15 +9,17 @@ use native.Mathlib.Decide.{dec_lt}
 use native.Mathlib.Omega.{arith}
 use lib.Dec.{T, leb, eqb, eqb→eq}
 use borrow.Author.Tests.{le-leb, lt-leb}
+use Rattle.std.specs.Prelude.{Ok, Err}
 use Rattle.phases.proofs.CaseLaws.{NoneOf, otherwise}
-use Rattle.shift.specs.declared.Reading.{Reading}
-use Rattle.shift.specs.declared.Reading.TheVariants.{Means, WrongCode, WrongAmount}
+use Rattle.shift.specs.Readings.{Reading}
+use Rattle.shift.specs.declared.Misread.{Misread}
+use Rattle.shift.specs.declared.Misread.TheVariants.{WrongCode, WrongAmount}
 use Rattle.shift.specs.Refusals.{NoCode, Formed, Reads}
 use Rattle.shift.specs.Answers.{reading}
 use Rattle.shift.proofs.Refusals.{reads}
 
 -- what is no step, by its code
-abbrev pub wrong_by : ℕ → Reading
+abbrev pub wrong_by : ℕ → Misread
 wrong_by code = cond (leb 1 code && leb code 13) WrongAmount WrongCode
 
 module _ (code : ℕ) where
@@ -33,16 +35,16 @@ module _ (code : ℕ) where
 
   module _ (middle amount : ℕ) where
     as_read :
-        (r : Reading) → Reads code middle amount r → (¬ NoCode code → Formed code middle amount → ⊥) → wrong_by code ≡ r
-    as_read (Means x) h n = absurd (n h.0 h.1)
-    as_read WrongCode h n =
+        (r : Reading) → Reads code middle amount r → (¬ NoCode code → Formed code middle amount → ⊥) → Err (wrong_by code) ≡ r
+    as_read (Ok x) h n = absurd (n h.0 h.1)
+    as_read (Err WrongCode) h n =
         ⊎_elim
         (λ e. rw (lt-leb 1 code (omega arith)))
         (λ e. elim (dec_lt code 1) [ yes l ↦ rw (lt-leb 1 code l) | no l ↦ rw (le-leb 1 code (omega arith), lt-leb code 13 e) ])
         h
-    as_read WrongAmount h n = let k = a_code h.0 in rw (le-leb 1 code k.0, le-leb code 13 k.1)
+    as_read (Err WrongAmount) h n = let k = a_code h.0 in rw (le-leb 1 code k.0, le-leb code 13 k.1)
 
-    pub no_step_read : (¬ NoCode code → Formed code middle amount → ⊥) → wrong_by code ≡ reading code middle amount
+    pub no_step_read : (¬ NoCode code → Formed code middle amount → ⊥) → Err (wrong_by code) ≡ reading code middle amount
     no_step_read = as_read (reading code middle amount) (reads middle amount code)
 
 -- the only number from 1 to 13 that is left by all arms but the tick's
@@ -60,12 +62,12 @@ left_over h r l m =
 -- ---- of a number
 module _ (head amount : ℕ) where
   -- with an amount it is a tick, or no step
-  pub no_tick : ¬ (head ≡ 12) → ¬ (amount ≡ 0) → wrong_by (head % 256) ≡ reading (head % 256) (head / 256) amount
+  pub no_tick : ¬ (head ≡ 12) → ¬ (amount ≡ 0) → Err (wrong_by (head % 256)) ≡ reading (head % 256) (head / 256) amount
   no_tick n some =
       no_step_read (head % 256) (head / 256) amount (λ k f. some (f.plain (λ e. let m = f.middle_byte in n (omega arith))))
 
   -- without one it is one of the arms, or no step
-  pub no_arm : amount ≡ 0 → NoneOf arms head → wrong_by (head % 256) ≡ reading (head % 256) (head / 256) amount
+  pub no_arm : amount ≡ 0 → NoneOf arms head → Err (wrong_by (head % 256)) ≡ reading (head % 256) (head / 256) amount
   no_arm none r =
       no_step_read (head % 256) (head / 256) amount
       (λ k f.

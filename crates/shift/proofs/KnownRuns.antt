@@ -10,7 +10,7 @@ use Rattle.limits.specs.declared.Table.{Table}
 use Rattle.limits.specs.Limits.{limits, entries, table_of, old_default, new_default, house}
 use Rattle.limits.specs.Rules.{broken_rule}
 use Rattle.shift.specs.declared.State.{State}
-use Rattle.shift.specs.declared.Reading.{Reading}
+use Rattle.shift.specs.Readings.{Reading}
 use Rattle.shift.specs.declared.Answer.{Answer}
 use Rattle.shift.specs.States.{start, neutral, in_gear, none, sent, working, good, failed, waiting}
 use Rattle.shift.specs.Answers.{reading, step_on}

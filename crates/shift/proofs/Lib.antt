@@ -5,5 +5,6 @@ pub mod AnswerLaws
 pub mod ExcessLaws
 pub mod ListedLaws
 pub mod Determined
+pub mod NumberLaws
 pub mod KnownRuns
 pub mod Refusals

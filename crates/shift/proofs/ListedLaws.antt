@@ -5,37 +5,32 @@ use mathlib.Core.Bool.{Bool, true, false, cond}
 use Prim.Native.Nat.{ℕ, zero, suc, ◌≤◌}
 use native.Mathlib.Omega.{arith}
 use lib.Dec.{T, leb, eqb, leb→le, le→leb}
+use Rattle.std.specs.Prelude.{Ok, Err}
 use Rattle.checks.specs.Checks.{first}
-use Rattle.checks.proofs.Checks.{Holds, first_left, first_right}
+use Rattle.checks.proofs.Checks.{Holds, first_right}
 use Rattle.limits.specs.declared.Table.{Table}
 use Rattle.phases.specs.Phases.{set, release, order_of, unfinished}
 use Rattle.phases.proofs.PhaseLaws.{next_listed, clutch_listed}
 use Rattle.shift.specs.declared.State.{State}
 use Rattle.shift.specs.declared.Step.{Step}
 use Rattle.shift.specs.declared.Step.TheVariants.{FromNeutral, GearToGear, ToNeutral, Deliver, DeviceGood, DeviceFailed, EngineWaits, Take, AskClutch, RaiseError, Finish, Tick, Reset}
-use Rattle.shift.specs.declared.Reading.{Reading}
-use Rattle.shift.specs.declared.Reading.TheVariants.{Means, WrongCode, WrongAmount}
+use Rattle.shift.specs.Readings.{Reading}
+use Rattle.shift.specs.declared.Misread.TheVariants.{WrongCode, WrongAmount}
 use Rattle.shift.specs.declared.Answer.{Answer}
 use Rattle.shift.specs.States.{entered}
 use Rattle.shift.specs.Steps.{allowed, requested, boxed, box_taken, effect}
-use Rattle.shift.specs.Answers.{refusal, listed, checks_of, guard, led, excess, answer, answer_to, judged}
+use Rattle.shift.specs.Answers.{listed, checks_of, guard, led, excess, answer, answer_to, judged}
 
 -- of a listed state nothing is checked but what its step asks
 pub left_to_check : (t : Table) (s : State) → Holds (listed s) → (r : Reading) → first (checks_of (allowed t s) r) ≡ guard t s r
-left_to_check t s h (Means x) = sym (first_right (listed s) (allowed t s x) h)
-left_to_check t s h WrongCode = refl
-left_to_check t s h WrongAmount = refl
+left_to_check t s h (Ok x) = sym (first_right (listed s) (allowed t s x) h)
+left_to_check t s h (Err WrongCode) = refl
+left_to_check t s h (Err WrongAmount) = refl
 
 pub judged_as_listed :
     (t : Table) (s : State) (r : Reading) → Holds (listed s)
     → answer_to t s r (first (checks_of (allowed t s) r)) ≡ judged t s r
 judged_as_listed t s r h = ap (answer_to t s r) (left_to_check t s h r)
-
--- of another what is no step is refused by its own number, and a step by the state's
-pub kept_out : (t : Table) (s : State) (r : Reading) → ¬ (first (listed s) ≡ 0) → guard t s r ≡ cond (eqb (refusal r) 0) (first (listed s)) (refusal r)
-kept_out t s (Means x) n = first_left (listed s) (allowed t s x) n
-kept_out t s WrongCode n = refl
-kept_out t s WrongAmount n = refl
 
 -- entering a phase that is listed
 either_way : (b : Bool) (x y n : ℕ) → T (leb x n) → T (leb y n) → T (leb (cond b x y) n)
@@ -68,9 +63,9 @@ leads s (Tick n) h = h
 leads s Reset h = enters 0 s (omega arith) h
 
 pub stays_listed : (s : State) (r : Reading) → Holds (listed s) → Holds (listed (led s r))
-stays_listed s (Means x) h = leads s x h
-stays_listed s WrongCode h = h
-stays_listed s WrongAmount h = h
+stays_listed s (Ok x) h = leads s x h
+stays_listed s (Err WrongCode) h = h
+stays_listed s (Err WrongAmount) h = h
 
 -- so an accepted step leads from a listed state to a listed one
 pub led_to : (k over : ℕ) (next s : State) → (answer k over next s).number ≡ 0 → (answer k over next s).state ≡ next

@@ -5,19 +5,20 @@ use mathlib.Core.Bool.{Bool, true, false, cond, ◌&&◌}
 use Prim.Native.Nat.{ℕ, ◌≤◌, ◌<◌}
 use lib.Dec.{eqb}
 use lib.ListN.{get_or-eq_default}
+use Rattle.std.specs.Prelude.{Ok, Err}
 use Rattle.checks.proofs.Ranges.{from}
 use Rattle.shift.specs.declared.Step.{Step}
 use Rattle.shift.specs.declared.Step.TheVariants.{Finish}
-use Rattle.shift.specs.declared.Reading.TheVariants.{Means, WrongCode, WrongAmount}
+use Rattle.shift.specs.declared.Misread.TheVariants.{WrongCode, WrongAmount}
 use Rattle.shift.specs.Answers.{plain, readings, reading, refusal}
 
-same_refusal : (b : Bool) (x y : Step) → refusal (cond b (Means x) WrongAmount) ≡ refusal (cond b (Means y) WrongAmount)
+same_refusal : (b : Bool) (x y : Step) → refusal (cond b (Ok x) (Err WrongAmount)) ≡ refusal (cond b (Ok y) (Err WrongAmount))
 same_refusal true x y = refl
 same_refusal false x y = refl
 
 module _ (middle n : ℕ) where
-  pub past_codes : (c : ℕ) → 13 < c → reading c middle n ≡ WrongCode
-  past_codes c h = get_or-eq_default (readings middle n) WrongCode {n = c} h
+  pub past_codes : (c : ℕ) → 13 < c → reading c middle n ≡ Err WrongCode
+  past_codes c h = get_or-eq_default (readings middle n) (Err WrongCode) {n = c} h
 
   one : (x : Step) → refusal (plain Finish middle n) ≡ refusal (plain x middle n)
   one = same_refusal (eqb middle 0 && eqb n 0) Finish

@@ -8,13 +8,14 @@ use Prim.Native.Nat.{ℕ, ◌≤◌, ◌<◌}
 use native.Mathlib.Decide.{dec_lt}
 use native.Mathlib.Omega.{arith}
 use lib.Dec.{T, leb, eqb, leb→le, le→leb, eqb→eq}
+use Rattle.std.specs.Prelude.{Ok, Err}
 use Rattle.checks.specs.Conditions.{FirstOf}
 use Rattle.checks.proofs.Tests.{eq→eqb, left, right, both}
 use Rattle.checks.proofs.Ranges.{below}
 use Rattle.shift.specs.declared.Step.{Step}
 use Rattle.shift.specs.declared.Step.TheVariants.{FromNeutral, GearToGear, ToNeutral, Deliver, DeviceGood, DeviceFailed, EngineWaits, Take, AskClutch, RaiseError, Finish, Tick, Reset}
-use Rattle.shift.specs.declared.Reading.{Reading}
-use Rattle.shift.specs.declared.Reading.TheVariants.{Means, WrongCode, WrongAmount}
+use Rattle.shift.specs.Readings.{Reading}
+use Rattle.shift.specs.declared.Misread.TheVariants.{WrongCode, WrongAmount}
 use Rattle.shift.specs.Refusals.{code_of, amount_of, NoCode, Formed, Reads, refusals}
 use Rattle.shift.specs.Answers.{plain, ticking, reading, refusal}
 use Rattle.shift.proofs.ReadingLaws.{past_codes}
@@ -29,7 +30,7 @@ module _ (middle amount : ℕ) where
   of_test :
       (b : Bool) (code : ℕ) (x : Step) → ¬ NoCode code → (T b → Formed code middle amount) → (Formed code middle amount → T b)
       → code_of x ≡ code → (T b → amount_of x ≡ amount)
-      → Reads code middle amount (cond b (Means x) WrongAmount)
+      → Reads code middle amount (cond b (Ok x) (Err WrongAmount))
   of_test true code x k f g c n = (k, f tt, c, n tt)
   of_test false code x k f g c n = (k, g)
 
@@ -81,9 +82,9 @@ module _ (middle amount : ℕ) where
 -- ---- the number of what is no step
 refused_so :
     (code middle amount : ℕ) (r : Reading) → Reads code middle amount r → FirstOf (refusals code middle amount) (refusal r)
-refused_so code middle amount (Means x) h = inr (h.0, inr (λ n. n h.1, refl))
-refused_so code middle amount WrongCode h = inl (h, refl)
-refused_so code middle amount WrongAmount h = inr (h.0, inl (h.1, refl))
+refused_so code middle amount (Ok x) h = inr (h.0, inr (λ n. n h.1, refl))
+refused_so code middle amount (Err WrongCode) h = inl (h, refl)
+refused_so code middle amount (Err WrongAmount) h = inr (h.0, inl (h.1, refl))
 
 pub in_order : (code middle amount : ℕ) → FirstOf (refusals code middle amount) (refusal (reading code middle amount))
 in_order code middle amount = refused_so code middle amount (reading code middle amount) (reads middle amount code)

@@ -1,14 +1,14 @@
 -- Document 01, "Numbers for what is refused": one step on any given state and table.
 -- Assumes nothing.
-use Rattle.std.specs.Prelude.{false, cond, ◌&&◌, List, [], ◌∷◌, ◌++◌, ℕ, zero, suc, leb, eqb, get_or}
+use Rattle.std.specs.Prelude.{false, cond, ◌&&◌, List, [], ◌∷◌, ◌++◌, ℕ, zero, suc, leb, eqb, get_or, Ok, Err}
 use Rattle.checks.specs.Checks.{Check, ◌!◌, first}
 use Rattle.limits.specs.declared.Table.{Table}
 use Rattle.limits.specs.Rules.{broken_rule}
 use Rattle.shift.specs.declared.State.{State}
 use Rattle.shift.specs.declared.Step.{Step}
 use Rattle.shift.specs.declared.Step.TheVariants.{FromNeutral, GearToGear, ToNeutral, Deliver, DeviceGood, DeviceFailed, EngineWaits, Take, AskClutch, RaiseError, Finish, Tick, Reset}
-use Rattle.shift.specs.declared.Reading.{Reading}
-use Rattle.shift.specs.declared.Reading.TheVariants.{Means, WrongCode, WrongAmount}
+use Rattle.shift.specs.Readings.{Reading}
+use Rattle.shift.specs.declared.Misread.TheVariants.{WrongCode, WrongAmount}
 use Rattle.shift.specs.declared.Answer.{Answer}
 use Rattle.phases.specs.Phases.{error}
 use Rattle.shift.specs.States.{waiting}
@@ -19,16 +19,16 @@ use Rattle.shift.specs.Excess.{early_bound, excess_by}
 
 -- codes 1 to 11 and 13: the middle byte and the amount are 0
 abbrev pub plain : Step → ℕ → ℕ → Reading
-plain x middle n = cond (eqb middle 0 && eqb n 0) (Means x) WrongAmount
+plain x middle n = cond (eqb middle 0 && eqb n 0) (Ok x) (Err WrongAmount)
 
 -- code 12: the middle byte is 0, the amount is 1 to 65,535
 abbrev pub ticking : ℕ → ℕ → Reading
-ticking middle n = cond (eqb middle 0 && (leb 1 n && leb n 65535)) (Means (Tick n)) WrongAmount
+ticking middle n = cond (eqb middle 0 && (leb 1 n && leb n 65535)) (Ok (Tick n)) (Err WrongAmount)
 
 -- by code, from 0
 abbrev pub readings : ℕ → ℕ → List Reading
 readings middle n =
-    WrongCode
+    Err WrongCode
     ∷ plain FromNeutral middle n
     ∷ plain GearToGear middle n
     ∷ plain ToNeutral middle n
@@ -45,13 +45,13 @@ readings middle n =
     ∷ []
 
 abbrev pub reading : ℕ → ℕ → ℕ → Reading
-reading code middle n = get_or (readings middle n) code WrongCode
+reading code middle n = get_or (readings middle n) code (Err WrongCode)
 
 -- the number of a reading that is no step
 abbrev pub refusal : Reading → ℕ
-refusal (Means x) = 0
-refusal WrongCode = 5
-refusal WrongAmount = 6
+refusal (Ok x) = 0
+refusal (Err WrongCode) = 5
+refusal (Err WrongAmount) = 6
 
 -- ---- the checks, in the order of their numbers
 
@@ -61,9 +61,9 @@ listed s = (leb s.phase error ! 7) ∷ (leb s.stage waiting ! 7) ∷ (leb s.gear
 
 -- of a reading: those of its step, or the one that refuses it
 abbrev pub checks_of : (Step → List Check) → Reading → List Check
-checks_of own (Means x) = own x
-checks_of own WrongCode = (false ! refusal WrongCode) ∷ []
-checks_of own WrongAmount = (false ! refusal WrongAmount) ∷ []
+checks_of own (Ok x) = own x
+checks_of own (Err WrongCode) = (false ! refusal (Err WrongCode)) ∷ []
+checks_of own (Err WrongAmount) = (false ! refusal (Err WrongAmount)) ∷ []
 
 abbrev pub checks : Table → State → Reading → List Check
 checks t s = checks_of (λ x. listed s ++ allowed t s x)
@@ -74,15 +74,15 @@ guard t s r = first (checks t s r)
 
 -- the state that it leads to
 abbrev pub led : State → Reading → State
-led s (Means x) = effect s x
-led s WrongCode = s
-led s WrongAmount = s
+led s (Ok x) = effect s x
+led s (Err WrongCode) = s
+led s (Err WrongAmount) = s
 
 -- the clock before which it is too early
 abbrev pub earliest : Table → State → Reading → ℕ
-earliest t s (Means x) = early_bound t s x
-earliest t s WrongCode = 0
-earliest t s WrongAmount = 0
+earliest t s (Ok x) = early_bound t s x
+earliest t s (Err WrongCode) = 0
+earliest t s (Err WrongAmount) = 0
 
 -- by how many milliseconds what this number refuses is too early or past the limit
 abbrev pub excess : Table → State → Reading → ℕ → ℕ

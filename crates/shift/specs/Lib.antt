@@ -1,4 +1,6 @@
+pub mod Readings
 pub mod States
+pub mod Numbers
 pub mod Steps
 pub mod Excess
 pub mod Answers

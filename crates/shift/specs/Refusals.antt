@@ -1,12 +1,12 @@
 -- Document 01, "Step files, parts and writing" and "Numbers for what is refused", a second time: what a code, a middle byte and an amount
 -- mean, and when they are refused with 5 and 6, as statements. It shares no definition with Answers.antt.
 -- Assumes nothing.
-use Rattle.std.specs.Prelude.{◌≡◌, ◌⊎◌, List, [], ◌∷◌, ℕ, ◌≤◌, ◌<◌}
+use Rattle.std.specs.Prelude.{◌≡◌, ◌⊎◌, List, [], ◌∷◌, ℕ, ◌≤◌, ◌<◌, Ok, Err}
 use Rattle.checks.specs.Conditions.{Condition, ◌gives◌}
 use Rattle.shift.specs.declared.Step.{Step}
 use Rattle.shift.specs.declared.Step.TheVariants.{FromNeutral, GearToGear, ToNeutral, Deliver, DeviceGood, DeviceFailed, EngineWaits, Take, AskClutch, RaiseError, Finish, Tick, Reset}
-use Rattle.shift.specs.declared.Reading.{Reading}
-use Rattle.shift.specs.declared.Reading.TheVariants.{Means, WrongCode, WrongAmount}
+use Rattle.shift.specs.Readings.{Reading}
+use Rattle.shift.specs.declared.Misread.TheVariants.{WrongCode, WrongAmount}
 
 -- 5: code 0 or above 13
 abbrev pub NoCode : ℕ → Type 0
@@ -58,6 +58,6 @@ amount_of Reset = 0
 
 -- what a code, a middle byte and an amount mean
 abbrev pub Reads : ℕ → ℕ → ℕ → Reading → Type 0
-Reads code middle amount (Means x) = ¬ NoCode code × Formed code middle amount × (code_of x ≡ code) × (amount_of x ≡ amount)
-Reads code middle amount WrongCode = NoCode code
-Reads code middle amount WrongAmount = ¬ NoCode code × Malformed code middle amount
+Reads code middle amount (Ok x) = ¬ NoCode code × Formed code middle amount × (code_of x ≡ code) × (amount_of x ≡ amount)
+Reads code middle amount (Err WrongCode) = NoCode code
+Reads code middle amount (Err WrongAmount) = ¬ NoCode code × Malformed code middle amount

@@ -1,23 +1,10 @@
 // What each step makes of the state. What a step doesn't name, it keeps.
-ghost use Rattle.std.specs.Prelude.{◌≡◌, cond, ◌+◌, ◌≤◌};
+ghost use Rattle.std.specs.Prelude.{◌≡◌, ◌+◌, ◌≤◌};
 ghost use Rattle.shift.specs.States.{entered};
 ghost use Rattle.shift.specs.Steps.{requested, boxed, box_taken, staged, ticked, effect};
 
 use crate::{State, Step};
 use phases::{RELEASE, SET, clutch_of, is_unfinished, next_of, order_of};
-
-// x where b holds, else y.
-fn pick8(b: bool, x: u8, y: u8) -> u8
-    ensures { result ≡ cond b x y }
-{
-    if b { x } else { y }
-}
-
-fn pick32(b: bool, x: u32, y: u32) -> u32
-    ensures { result ≡ cond b x y }
-{
-    if b { x } else { y }
-}
 
 impl State {
     // The state in another phase, the box as it is.
@@ -25,18 +12,14 @@ impl State {
         ensures { result ≡ entered phase self }
     {
         let now = self.clock;
-        let stage = pick8(is_unfinished(phase), 1, 0);
-        let request_time = pick32(phase == 0, 0, self.request_time);
-        let failed_phase = pick8(phase == 23, self.phase, 0);
         State {
-            clock: now,
-            gear_box: self.gear_box,
             phase,
             phase_time: now,
-            stage,
+            stage: if is_unfinished(phase) { 1 } else { 0 },
             stage_time: now,
-            request_time,
-            failed_phase,
+            request_time: if phase == 0 { 0 } else { self.request_time },
+            failed_phase: if phase == 23 { self.phase } else { 0 },
+            ..self
         }
     }
 
@@ -45,14 +28,8 @@ impl State {
         ensures { result ≡ requested self }
     {
         State {
-            clock: self.clock,
-            gear_box: self.gear_box,
-            phase: self.phase,
-            phase_time: self.phase_time,
-            stage: self.stage,
-            stage_time: self.stage_time,
             request_time: self.clock,
-            failed_phase: self.failed_phase,
+            ..self
         }
     }
 
@@ -61,14 +38,8 @@ impl State {
         ensures { result ≡ boxed side self }
     {
         State {
-            clock: self.clock,
             gear_box: side,
-            phase: self.phase,
-            phase_time: self.phase_time,
-            stage: self.stage,
-            stage_time: self.stage_time,
-            request_time: self.request_time,
-            failed_phase: self.failed_phase,
+            ..self
         }
     }
 
@@ -76,9 +47,11 @@ impl State {
     fn box_taken(self) -> u8
         ensures { result ≡ box_taken self }
     {
-        let order = order_of(self.phase);
-        let released = pick8(order == RELEASE, 0, self.gear_box);
-        pick8(order == SET, 1, released)
+        match order_of(self.phase) {
+            SET => 1,
+            RELEASE => 0,
+            _ => self.gear_box,
+        }
     }
 
     // The stage, and stage time = clock.
@@ -86,14 +59,9 @@ impl State {
         ensures { result ≡ staged stage self }
     {
         State {
-            clock: self.clock,
-            gear_box: self.gear_box,
-            phase: self.phase,
-            phase_time: self.phase_time,
             stage,
             stage_time: self.clock,
-            request_time: self.request_time,
-            failed_phase: self.failed_phase,
+            ..self
         }
     }
 
@@ -102,16 +70,9 @@ impl State {
         requires { self.clock + amount ≤ 4294967295 }
         ensures { result ≡ ticked amount self }
     {
-        let clock = self.clock;
         State {
-            clock: clock + amount,
-            gear_box: self.gear_box,
-            phase: self.phase,
-            phase_time: self.phase_time,
-            stage: self.stage,
-            stage_time: self.stage_time,
-            request_time: self.request_time,
-            failed_phase: self.failed_phase,
+            clock: self.clock + amount,
+            ..self
         }
     }
 

@@ -1,9 +1,10 @@
 // How far over a refused step is: the milliseconds by which it is too early or past the limit.
 ghost use Rattle.std.specs.Prelude.{◌≡◌};
+ghost use Rattle.shift.specs.Numbers.{number_of};
 ghost use Rattle.shift.specs.Steps.{effect, stage_limit};
 ghost use Rattle.shift.specs.Excess.{early_bound, excess_by};
 
-use crate::{State, Step};
+use crate::{Refused, State, Step};
 use limits::Table;
 use phases::{
     device_limit, earliest_ask, error_delay, latest_take, order_of, phase_limit, plain_delay,
@@ -11,33 +12,32 @@ use phases::{
 use times::{beyond, bound};
 
 impl State {
-    // Of a step, by the number that refuses it; `now` is the clock that it leads to. Every number but 9 to 13 carries 0.
-    pub(crate) fn excess(self, table: Table, x: Step, now: u64, number: u8) -> u64
-        ensures { result ≡ excess_by table self (early_bound table self x) now number }
+    // Of a step, by what refuses it; `now` is the clock that it leads to. What isn't refused by a time carries 0.
+    pub(crate) fn excess(self, table: Table, x: Step, now: u64, refusal: Refused) -> u64
+        ensures { result ≡ excess_by table self (early_bound table self x) now (number_of refusal) }
     {
         let order = order_of(self.phase);
-        match number {
-            9 => beyond(self.early_bound(table, x), self.clock as u64),
-            10 => beyond(
+        match refusal {
+            Refused::TooEarly => beyond(self.early_bound(table, x), self.clock as u64),
+            Refused::TooLate => beyond(
                 self.clock as u64,
                 bound(self.phase_time, latest_take(table, order)),
             ),
-            11 => beyond(now, bound(self.phase_time, phase_limit(table, order))),
-            12 => beyond(now, bound(self.stage_time, self.stage_limit(table))),
-            13 => beyond(now, 4294967295),
-            _ => 0,
+            Refused::PastPhase => beyond(now, bound(self.phase_time, phase_limit(table, order))),
+            Refused::PastStage => beyond(now, bound(self.stage_time, self.stage_limit(table))),
+            Refused::PastClock => beyond(now, 4294967295),
+            Refused::NotAllowed | Refused::WrongSide => 0,
         }
     }
 
-    // The limit of the channel or of the device in this stage, 0 where there is none.
+    // The limit of the channel or of the device in this stage, 0 where there is none: the definitions stage_limit and early_bound have 0 in
+    // the place of none, so that an Option would be put back to it.
     fn stage_limit(self, table: Table) -> u16
         ensures { result ≡ stage_limit table self }
     {
-        let stage = self.stage;
-        match stage {
-            1 => table.channel_dl,
+        match self.stage {
+            1 | 3 => table.channel_dl,
             2 => device_limit(table, order_of(self.phase)),
-            3 => table.channel_dl,
             _ => 0,
         }
     }

@@ -1,12 +1,14 @@
-// The number that refuses a step, or 0: for each step its checks, in the order of their numbers.
+// What refuses a step, if anything does: for each step its checks, in the order of their numbers. Table, step and clock are handed on
+// apart, as the definitions of specs/Steps.antt take them.
 ghost use Rattle.std.specs.Prelude.{◌≡◌, cond, ◌++◌, ℕ, ◌+◌, ltb};
 ghost use Rattle.checks.specs.Checks.{first};
 ghost use Rattle.phases.specs.Phases.{«open», close, order_of, unfinished};
 ghost use Rattle.shift.specs.States.{working, good, waiting};
 ghost use Rattle.shift.specs.Steps.{rests_in, shifts_in, in_device, in_engine, good_bound, failed_bound, in_report_time, in_take_time, in_ask_time, in_tick_time, stands_in, stage_bound, phase_bound, limited, allowed};
+ghost use Rattle.shift.specs.Numbers.{number_in};
 ghost use Rattle.shift.specs.Answers.{listed};
 
-use crate::{State, Step};
+use crate::{Refused, State, Step};
 use limits::Table;
 use phases::{
     CLOSE, OPEN, ZERO_TORQUE, device_limit, earliest_ask, is_unfinished, latest_take, order_of,
@@ -15,9 +17,9 @@ use phases::{
 use times::{is_early, is_late, overruns, passes};
 
 impl State {
-    // 0 where a listed state allows the step, else the number that refuses it.
-    pub(crate) fn guard(self, table: Table, x: Step) -> u8
-        ensures { result ≡ first (allowed table self x) }
+    // What refuses the step of a listed state.
+    pub(crate) fn guard(self, table: Table, x: Step) -> Result<(), Refused>
+        ensures { number_in result ≡ first (allowed table self x) }
     {
         match x {
             Step::FromNeutral => self.rests_in(0),
@@ -36,215 +38,172 @@ impl State {
         }
     }
 
-    // 7 for a phase above 23, an unlisted stage or a box above 1, else 0.
-    pub fn unlisted(self) -> u8
-        ensures { result ≡ first (listed self) }
+    // Not allowed: a phase above 23, an unlisted stage or a box above 1.
+    pub fn unlisted(self) -> Result<(), Refused>
+        ensures { number_in result ≡ first (listed self) }
     {
-        let phase = self.phase;
-        let stage = self.stage;
-        let gear_box = self.gear_box;
-        if 23 < phase {
-            return 7;
+        if self.phase > 23 || self.stage > 5 || self.gear_box > 1 {
+            return Err(Refused::NotAllowed);
         }
-        if 5 < stage {
-            return 7;
-        }
-        if 1 < gear_box {
-            return 7;
-        }
-        0
+        Ok(())
     }
 
     // At rest, and the box on this side.
-    fn rests_in(self, side: u8) -> u8
-        ensures { result ≡ first (rests_in self side) }
+    fn rests_in(self, side: u8) -> Result<(), Refused>
+        ensures { number_in result ≡ first (rests_in self side) }
     {
-        let phase = self.phase;
-        let gear_box = self.gear_box;
-        if phase != 0 {
-            return 7;
+        if self.phase != 0 {
+            return Err(Refused::NotAllowed);
         }
-        if gear_box != side {
-            return 8;
+        if self.gear_box != side {
+            return Err(Refused::WrongSide);
         }
-        0
+        Ok(())
     }
 
     // In phase 1 to 21, and in this stage.
-    fn shifts_in(self, wanted: u8) -> u8
-        ensures { result ≡ first (shifts_in self wanted) }
+    fn shifts_in(self, wanted: u8) -> Result<(), Refused>
+        ensures { number_in result ≡ first (shifts_in self wanted) }
     {
-        if is_unfinished(self.phase) & (self.stage == wanted) {
-            return 0;
+        if is_unfinished(self.phase) && self.stage == wanted {
+            return Ok(());
         }
-        7
+        Err(Refused::NotAllowed)
     }
 
     // Working on a clutch or gear order.
-    fn in_device(self) -> u8
-        ensures { result ≡ first (shifts_in self working ++ in_device self) }
+    fn in_device(self) -> Result<(), Refused>
+        ensures { number_in result ≡ first (shifts_in self working ++ in_device self) }
     {
-        let number = self.shifts_in(2);
-        if number != 0 {
-            return number;
-        }
+        self.shifts_in(2)?;
         if order_of(self.phase) <= ZERO_TORQUE {
-            return 7;
+            return Err(Refused::NotAllowed);
         }
-        0
+        Ok(())
     }
 
     // In this stage of an engine order.
-    fn in_engine(self, wanted: u8) -> u8
-        ensures { result ≡ first (shifts_in self wanted ++ in_engine self) }
+    fn in_engine(self, wanted: u8) -> Result<(), Refused>
+        ensures { number_in result ≡ first (shifts_in self wanted ++ in_engine self) }
     {
-        let number = self.shifts_in(wanted);
-        if number != 0 {
-            return number;
-        }
+        self.shifts_in(wanted)?;
         if ZERO_TORQUE < order_of(self.phase) {
-            return 7;
+            return Err(Refused::NotAllowed);
         }
-        0
+        Ok(())
     }
 
     // Working, and on a clutch order not before its plain delay.
-    fn in_good_time(self, table: Table) -> u8
-        ensures { result ≡ first (shifts_in self working ++ in_report_time self (good_bound table self)) }
+    fn in_good_time(self, table: Table) -> Result<(), Refused>
+        ensures { number_in result ≡ first (shifts_in self working ++ in_report_time self (good_bound table self)) }
     {
-        let number = self.shifts_in(2);
-        if number != 0 {
-            return number;
-        }
+        self.shifts_in(2)?;
         self.in_report_time(table.clutch_open_de, table.clutch_close_de)
     }
 
     // Working on a clutch or gear order, and on a clutch order not before its error delay.
-    fn in_failed_time(self, table: Table) -> u8
-        ensures { result ≡ first (shifts_in self working ++ (in_device self ++ in_report_time self (failed_bound table self))) }
+    fn in_failed_time(self, table: Table) -> Result<(), Refused>
+        ensures { number_in result ≡ first (shifts_in self working ++ (in_device self ++ in_report_time self (failed_bound table self))) }
     {
-        let number = self.in_device();
-        if number != 0 {
-            return number;
-        }
+        self.in_device()?;
         self.in_report_time(table.error_clutch_open_de, table.error_clutch_close_de)
     }
 
     // In open phases not before the one delay, in close phases not before the other.
-    fn in_report_time(self, opening: u16, closing: u16) -> u8
-        ensures { (delay : ℕ) → (order_of self.phase ≡ «open» → delay ≡ opening) → (order_of self.phase ≡ close → delay ≡ closing) → result ≡ first (in_report_time self (self.stage_time + delay)) }
+    fn in_report_time(self, opening: u16, closing: u16) -> Result<(), Refused>
+        ensures { (delay : ℕ) → (order_of self.phase ≡ «open» → delay ≡ opening) → (order_of self.phase ≡ close → delay ≡ closing) → number_in result ≡ first (in_report_time self (self.stage_time + delay)) }
     {
         match order_of(self.phase) {
             OPEN => self.not_before(opening),
             CLOSE => self.not_before(closing),
-            _ => 0,
+            _ => Ok(()),
         }
     }
 
     // Not before this delay of the stage.
-    fn not_before(self, delay: u16) -> u8
-        ensures { result ≡ cond (ltb self.clock (self.stage_time + delay)) 9 0 }
+    fn not_before(self, delay: u16) -> Result<(), Refused>
+        ensures { number_in result ≡ cond (ltb self.clock (self.stage_time + delay)) 9 0 }
     {
         if is_early(self.clock, self.stage_time, delay) {
-            return 9;
+            return Err(Refused::TooEarly);
         }
-        0
+        Ok(())
     }
 
     // The order is good, and in an engine phase its EX is not past.
-    fn in_take_time(self, table: Table) -> u8
-        ensures { result ≡ first (shifts_in self good ++ in_take_time table self) }
+    fn in_take_time(self, table: Table) -> Result<(), Refused>
+        ensures { number_in result ≡ first (shifts_in self good ++ in_take_time table self) }
     {
-        let number = self.shifts_in(3);
-        if number != 0 {
-            return number;
-        }
+        self.shifts_in(3)?;
         let order = order_of(self.phase);
         if ZERO_TORQUE < order {
-            return 0;
+            return Ok(());
         }
         if is_late(self.clock, self.phase_time, latest_take(table, order)) {
-            return 10;
+            return Err(Refused::TooLate);
         }
-        0
+        Ok(())
     }
 
     // The engine waits, and not before the DE of its phase.
-    fn in_ask_time(self, table: Table) -> u8
-        ensures { result ≡ first (shifts_in self waiting ++ (in_engine self ++ in_ask_time table self)) }
+    fn in_ask_time(self, table: Table) -> Result<(), Refused>
+        ensures { number_in result ≡ first (shifts_in self waiting ++ (in_engine self ++ in_ask_time table self)) }
     {
-        let number = self.in_engine(5);
-        if number != 0 {
-            return number;
-        }
+        self.in_engine(5)?;
         let de = earliest_ask(table, order_of(self.phase));
         if is_early(self.clock, self.phase_time, de) {
-            return 9;
+            return Err(Refused::TooEarly);
         }
-        0
+        Ok(())
     }
 
     // In this phase.
-    fn stands_in(self, wanted: u8) -> u8
-        ensures { result ≡ first (stands_in self wanted) }
+    fn stands_in(self, wanted: u8) -> Result<(), Refused>
+        ensures { number_in result ≡ first (stands_in self wanted) }
     {
-        let phase = self.phase;
-        if phase != wanted {
-            return 7;
+        if self.phase != wanted {
+            return Err(Refused::NotAllowed);
         }
-        0
+        Ok(())
     }
 
     // The clock can be moved by this amount.
-    fn in_tick_time(self, table: Table, amount: u32) -> u8
-        ensures { result ≡ first (in_tick_time table self (self.clock + amount)) }
+    fn in_tick_time(self, table: Table, amount: u32) -> Result<(), Refused>
+        ensures { number_in result ≡ first (in_tick_time table self (self.clock + amount)) }
     {
-        let clock = self.clock;
-        if overruns(clock, amount) {
-            return 13;
+        if overruns(self.clock, amount) {
+            return Err(Refused::PastClock);
         }
-        let now = (clock + amount) as u64;
+        let now = (self.clock + amount) as u64;
         if self.passes_stage(table, now) {
-            return 12;
+            return Err(Refused::PastStage);
         }
         if self.passes_phase(table, now) {
-            return 11;
+            return Err(Refused::PastPhase);
         }
-        0
+        Ok(())
     }
 
     // The clock `now` is past the channel's or the device's limit.
     fn passes_stage(self, table: Table, now: u64) -> bool
         ensures { result ≡ ltb (stage_bound table self) (cond (limited self) now 0) }
     {
-        let phase = self.phase;
-        let stage = self.stage;
-        if phase < 1 {
+        if !is_unfinished(self.phase) {
             return false;
         }
-        if 21 < phase {
-            return false;
+        let device = device_limit(table, order_of(self.phase));
+        match self.stage {
+            1 | 3 => passes(now, self.stage_time, table.channel_dl),
+            2 => passes(now, self.stage_time, device),
+            _ => false,
         }
-        if stage == 2 {
-            return passes(now, self.stage_time, device_limit(table, order_of(phase)));
-        }
-        if (stage == 1) | (stage == 3) {
-            return passes(now, self.stage_time, table.channel_dl);
-        }
-        false
     }
 
     // The clock `now` is past the phase's limit.
     fn passes_phase(self, table: Table, now: u64) -> bool
         ensures { result ≡ ltb (phase_bound table self) (cond (unfinished self.phase) now 0) }
     {
-        let phase = self.phase;
-        if phase < 1 {
-            return false;
-        }
-        if 21 < phase {
-            return false;
-        }
-        passes(now, self.phase_time, phase_limit(table, order_of(phase)))
+        let limit = phase_limit(table, order_of(self.phase));
+        is_unfinished(self.phase) && passes(now, self.phase_time, limit)
     }
 }

@@ -7,9 +7,8 @@ use Rattle.numbers.specs.Bytes.{bytes_of}
 use Rattle.numbers.proofs.StoreLaws.{sets-append, at_start}
 use Rattle.shift.specs.States.{start}
 use Rattle.shift.specs.Runs.{Outcome, run}
-use Rattle.stepfile.specs.declared.Refusal.{Refusal}
 use Rattle.stepfile.specs.Records.{records_in}
-use Rattle.stepfile.specs.Files.{table_in, refusal_of, from_offset, readings_of, record_offset}
+use Rattle.stepfile.specs.Files.{Refusal, table_in, refusal_of, from_offset, readings_of, record_offset}
 use Rattle.stepfile.proofs.WholeLaws.{good_file}
 use Rattle.trace.specs.Traces.{trace_of}
 use Rattle.trace.proofs.TraceLaws.{Sound, accepted_sound}
@@ -20,7 +19,7 @@ use Rattle.shiftlist.specs.declared.Shift.{Shift}
 use Rattle.shiftlist.specs.declared.walk.Walk.{Walk}
 use Rattle.shiftlist.specs.declared.Listed.{Listed}
 use Rattle.shiftlist.specs.Lists.{entries_of, header_of, list_of, shifts_of, size_for, listed_long, refused_by, fitting, after_judge, built_of, buffer_after}
-use Rattle.shiftlist.specs.Walks.{coded_in, idle, laid_by, size_with}
+use Rattle.shiftlist.specs.Walks.{coded_in, holding, idle, laid_by, size_with}
 use Rattle.shiftlist.proofs.WalkLaws.{listed, shifts_same}
 use Rattle.shiftlist.proofs.Extended.{from_rest}
 use Rattle.shiftlist.proofs.CodeLaws.{laid_as_listed}
@@ -35,6 +34,16 @@ was_read (suc k) r o e z = absurd (omega arith)
 -- nothing in hand, at the start
 abbrev pub begin : Walk
 begin = idle (trace_of start)
+
+pub at_zero :
+    (w : Walk)
+    → (w.clock ≡ 0) × ((w.phase ≡ 0) × ((w.first ≡ 0) × ((w.last ≡ 0) × ((w.kind ≡ 0) × ((w.route ≡ 0) × (w.request_time ≡ 0))))))
+    → w ≡ begin
+at_zero w e =
+    let fields : holding w.clock w.phase w.first w.last w.kind w.route w.request_time ≡ begin =
+    rw (e.0, e.1.0, e.1.1.0, e.1.1.1.0, e.1.1.1.1.0, e.1.1.1.1.1.0, e.1.1.1.1.1.1)
+    in
+    fields
 
 module _ (f : List ℕ) (z : (verdict_of f).number ≡ 0) where
   pub read : (refusal_of f).number ≡ 0

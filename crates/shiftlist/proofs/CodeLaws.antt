@@ -1,10 +1,11 @@
 -- The walk by codes and amounts is the walk by what was read, on records that are accepted; and so is the count of requests.
 -- Assumes nothing.
+use Rattle.std.specs.Prelude.{Ok, Err}
 use Rattle.std.proofs.Common.{◌≡◌, ℕ, zero, suc, ◌+◌, ◌*◌, ◌%◌, ◌≤◌, List, [], ◌∷◌, length, sym, refl, ap, ◌∙◌, subst, arith}
 use Rattle.shift.specs.declared.Step.{Step}
 use Rattle.shift.specs.declared.Step.TheVariants.{FromNeutral, GearToGear, ToNeutral, Deliver, DeviceGood, DeviceFailed, EngineWaits, Take, AskClutch, RaiseError, Finish, Tick, Reset}
-use Rattle.shift.specs.declared.Reading.{Reading}
-use Rattle.shift.specs.declared.Reading.TheVariants.{Means, WrongCode, WrongAmount}
+use Rattle.shift.specs.Readings.{Reading}
+use Rattle.shift.specs.declared.Misread.TheVariants.{WrongCode, WrongAmount}
 use Rattle.stepfile.specs.Records.{record_of, records_in}
 use Rattle.trace.specs.Traces.{Trace, stepped, after}
 use Rattle.trace.proofs.TraceLaws.{Sound}
@@ -16,7 +17,7 @@ use Rattle.shiftlist.specs.Walks.{coded_in, trace_in, in_hand, ticked, walked_by
 use Rattle.shiftlist.proofs.WalkLaws.{whole_on, shifts_on, walked, listed, same_trace}
 
 -- ---- the walk by a step's code and amount
-pub same_walk : (w : Walk) (i : ℕ) (x : Step) → (stepped (trace_in w) x).clock ≤ 4294967295 → walked_by w i (code_of x) (amount_of x) ≡ walked w i (Means x)
+pub same_walk : (w : Walk) (i : ℕ) (x : Step) → (stepped (trace_in w) x).clock ≤ 4294967295 → walked_by w i (code_of x) (amount_of x) ≡ walked w i (Ok x)
 same_walk w i FromNeutral h = refl
 same_walk w i GearToGear h = refl
 same_walk w i ToNeutral h = refl
@@ -43,12 +44,12 @@ requests_in (r ∷ rs) = one_more (kind_of r) (requests_in rs)
 -- ---- a record of four bytes that is a step
 record IsStep (r : Reading) : Type 0 where
   x : Step
-  is : r ≡ Means x
+  is : r ≡ Ok x
 
 step_of : (r : Reading) (t : Trace) (rs : List Reading) → Sound t (r ∷ rs) → IsStep r
-step_of (Means x) t rs h = record { x = x; is = refl }
-step_of WrongCode t rs h = absurd h
-step_of WrongAmount t rs h = absurd h
+step_of (Ok x) t rs h = record { x = x; is = refl }
+step_of (Err WrongCode) t rs h = absurd h
+step_of (Err WrongAmount) t rs h = absurd h
 
 module _ (a b c d : ℕ) (w : Walk) (i : ℕ) (rs : List Reading) (h : Sound (trace_in w) (record_of a b c d ∷ rs)) where
   abbrev n : ℕ
@@ -66,7 +67,7 @@ module _ (a b c d : ℕ) (w : Walk) (i : ℕ) (rs : List Reading) (h : Sound (tr
   own : (code_of x ≡ a) × (amount_of x ≡ n)
   own = its_own b n x a step.is
 
-  sound : Sound t (Means x ∷ rs)
+  sound : Sound t (Ok x ∷ rs)
   sound = subst (λ r. Sound t (r ∷ rs)) step.is h
 
   pub walked_same : walked_by w i a n ≡ walked w i (record_of a b c d)

@@ -1,11 +1,12 @@
 -- The shifts of Shifts.antt are the entries of Entries.antt, the second wording; no acceptance is needed.
 -- Assumes nothing.
+use Rattle.std.specs.Prelude.{Ok, Err}
 use Rattle.std.proofs.Common.{◌≡◌, ℕ, zero, suc, ◌+◌, ◌<◌, ◌≤◌, false, cond, T, ◌⊎◌, List, [], ◌∷◌, length, get_or, take, sym, refl, ap, ◌∙◌, subst, inl, inr, ⊎_elim, zero-add, arith}
 use Rattle.checks.proofs.Tests.{case, passes}
 use Rattle.promises.specs.Verdicts.{at}
 use Rattle.shift.specs.declared.State.{State}
-use Rattle.shift.specs.declared.Reading.{Reading}
-use Rattle.shift.specs.declared.Reading.TheVariants.{Means, WrongCode}
+use Rattle.shift.specs.Readings.{Reading}
+use Rattle.shift.specs.declared.Misread.TheVariants.{WrongCode}
 use Rattle.shift.specs.declared.Step.TheVariants.{AskClutch}
 use Rattle.shift.specs.Answers.{led}
 use Rattle.shiftlist.specs.declared.Shift.{Shift}
@@ -47,7 +48,7 @@ module _ (s : State) (r : Reading) (rs : List Reading) (a m : ℕ) where
   asked_sooner : Asked (r ∷ rs) (suc a) (suc m) → Asked rs a m
   asked_sooner x = sooner x.index x.from x.to x.there
     where
-      sooner : (k : ℕ) → suc a ≤ k → k ≤ suc m → at (r ∷ rs) k ≡ Means AskClutch → Asked rs a m
+      sooner : (k : ℕ) → suc a ≤ k → k ≤ suc m → at (r ∷ rs) k ≡ Ok AskClutch → Asked rs a m
       sooner zero f t e = absurd (omega arith)
       sooner (suc k) f t e = record { index = k; from = omega arith; to = omega arith; there = e }
 
@@ -168,8 +169,8 @@ found :
     (i : ℕ) (s : State) (rs : List Reading) (j code : ℕ) → RequestOf (at rs j) code
     → EntryOf (shifts_from i s rs) no_shift (i + j)
 found i s [] j code q =
-    let k = kind_of_a_request WrongCode code q in
-    let c = codes_of_requests WrongCode code q in
+    let k = kind_of_a_request (Err WrongCode) code q in
+    let c = codes_of_requests (Err WrongCode) code q in
     absurd (omega arith)
 found i s (r ∷ rs) zero code q =
     let k = kind_of_a_request r code q in

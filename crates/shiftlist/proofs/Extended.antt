@@ -1,10 +1,11 @@
 -- The shifts of records in two pieces: those that the first piece ended stay, the walk goes on with the one in hand, and at most the
 -- last is open.
 -- Assumes nothing.
+use Rattle.std.specs.Prelude.{Ok, Err}
 use Rattle.std.proofs.Common.{◌≡◌, ℕ, suc, ◌+◌, Bool, true, false, T, List, [], ◌∷◌, ◌++◌, length, sym, refl, ap, ◌∙◌, subst, append-nil, arith}
 use Rattle.phases.specs.Phases.{unfinished}
-use Rattle.shift.specs.declared.Reading.{Reading}
-use Rattle.shift.specs.declared.Reading.TheVariants.{Means, WrongCode, WrongAmount}
+use Rattle.shift.specs.Readings.{Reading}
+use Rattle.shift.specs.declared.Misread.TheVariants.{WrongCode, WrongAmount}
 use Rattle.trace.specs.Traces.{Trace, after, stepped, traced}
 use Rattle.trace.proofs.TraceLaws.{Sound}
 use Rattle.shiftlist.specs.declared.Shift.{Shift}
@@ -16,9 +17,9 @@ use Rattle.shiftlist.proofs.WalkLaws.{whole_on, shifts_on, walked, listed, close
 
 pub sound_pieces : (t : Trace) (xs ys : List Reading) → Sound t (xs ++ ys) → Sound t xs × Sound (traced t xs) ys
 sound_pieces t [] ys h = (tt, h)
-sound_pieces t (Means x ∷ xs) ys h = let r = sound_pieces (stepped t x) xs ys h.2 in ((h.0, h.1, r.0), r.1)
-sound_pieces t (WrongCode ∷ xs) ys h = absurd h
-sound_pieces t (WrongAmount ∷ xs) ys h = absurd h
+sound_pieces t (Ok x ∷ xs) ys h = let r = sound_pieces (stepped t x) xs ys h.2 in ((h.0, h.1, r.0), r.1)
+sound_pieces t (Err WrongCode ∷ xs) ys h = absurd h
+sound_pieces t (Err WrongAmount ∷ xs) ys h = absurd h
 
 pub end_trace : (w : Walk) (i : ℕ) (xs : List Reading) → trace_in (at_end w i xs) ≡ traced (trace_in w) xs
 end_trace w i [] = refl
@@ -51,8 +52,8 @@ ending k p q (rests e u v c) b = falsely (sym c ∙ b)
 
 pub closed_ended : (w : Walk) (i : ℕ) (xs : List Reading) → Sound (trace_in w) xs → Each Ended (closed w i xs)
 closed_ended w i [] h = tt
-closed_ended w i (Means x ∷ xs) h =
-    let r = Means x in
+closed_ended w i (Ok x ∷ xs) h =
+    let r = Ok x in
     let t = stepped (trace_in w) x in
     let w' = walked w i r in
     let e = same_trace (kind_of r) w i (asks r) t in
@@ -61,8 +62,8 @@ closed_ended w i (Means x ∷ xs) h =
     (λ b. subst (λ (p : ℕ). ¬ (end_of p ≡ 0)) (sym q)
     (ending (kind_of r) w.phase t.phase (moves (trace_in w) x h.0) (subst (λ p. closes w.phase p ≡ true) q b)))
     (closed_ended w' (suc i) xs (subst (λ s. Sound s xs) (sym e) h.2))
-closed_ended w i (WrongCode ∷ xs) h = absurd h
-closed_ended w i (WrongAmount ∷ xs) h = absurd h
+closed_ended w i (Err WrongCode ∷ xs) h = absurd h
+closed_ended w i (Err WrongAmount ∷ xs) h = absurd h
 
 -- the list from rest: ended entries, then one that is open where the phase at the end is unfinished
 pub shape :

@@ -4,7 +4,6 @@ use Rattle.std.proofs.Common.{◌≡◌, ℕ, zero, suc, ◌+◌, ◌*◌, ◌/�
 use Rattle.checks.proofs.Checks.{refused, holds→first}
 use Rattle.checks.proofs.Tests.{tests}
 use Rattle.numbers.specs.Bytes.{u32_at, bytes_of}
-use Rattle.numbers.proofs.ReadLaws.{no_byte, no_u16, no_u32}
 use Rattle.shiftlist.specs.declared.Shift.{Shift}
 use Rattle.shiftlist.specs.Lists.{numbers_of, entries_of, list_of, shift_at, no_shift, fetchable, found, fetch_of}
 use Rattle.shiftlist.proofs.ListLaws.{list_long}
@@ -18,19 +17,6 @@ pub record Fits (e : Shift) : Type 0 where
   pub end : e.end < 256
   pub time : e.request_time < 4294967296
   pub age : e.age < 4294967296
-
--- behind the end zeros are read
-pub none_there : (l : List ℕ) (p : ℕ) → length l ≤ p → no_shift ≡ shift_at l p
-none_there l p h =
-    rw (
-      ← no_u16 l p h,
-      ← no_u16 l (p + 2) (omega arith),
-      ← no_byte l (p + 4) (omega arith),
-      ← no_byte l (p + 5) (omega arith),
-      ← no_byte l (p + 6) (omega arith),
-      ← no_u32 l (p + 8) (omega arith),
-      ← no_u32 l (p + 12) (omega arith),
-    )
 
 -- the bytes from entry i on
 entries_from : (i : ℕ) (es : List Shift) → drop (16 * i) (bytes_of (entries_of es)) ≡ bytes_of (entries_of (drop i es))

@@ -1,14 +1,16 @@
 -- Laws on laying entries into a list: when nothing is laid, the header, and what a size that is 0 or not tells.
 -- Assumes nothing.
-use Rattle.std.proofs.Common.{◌≡◌, ℕ, ◌+◌, ◌-◌, ◌/◌, ◌<◌, ◌≤◌, Bool, true, false, cond, ◌&&◌, ◌||◌, T, ltb, leb, List, [], length, sym, refl, ap, ◌∙◌, subst, ⊎_elim, arith, ltb-false, le-leb, leb-false, leb-true}
+use Rattle.std.proofs.Common.{◌≡◌, ℕ, zero, suc, ◌+◌, ◌*◌, ◌-◌, ◌/◌, ◌<◌, ◌≤◌, Bool, true, false, cond, ◌&&◌, ◌⊎◌, leb, List, [], length, Some, None, sym, refl, ap, ◌∙◌, ⊎_elim, arith, le-leb, leb-false, leb-true}
 use lib.Seq.{sets}
 use borrow.Author.Tests.{lt-leb}
-use Rattle.checks.proofs.Tests.{tests, case, either, passes}
+use Rattle.checks.proofs.Tests.{case}
 use Rattle.numbers.specs.Bytes.{bytes_of, halves}
 use Rattle.numbers.proofs.StoreLaws.{next32}
 use Rattle.shiftlist.specs.declared.walk.Walk.{Walk}
 use Rattle.shiftlist.specs.Lists.{entries_of, header_of}
-use Rattle.shiftlist.specs.Walks.{coded_in, laid_by, size_with, layable, laid_size, laid_in}
+use Rattle.std.specs.Simd.{first_chunks}
+use Rattle.shiftlist.specs.Walks.{coded_in, coded_all, laid_by, unless_0, size_with, layable, laid_size, laid_in}
+use Rattle.shiftlist.proofs.LayLaws.{same_coded}
 
 never_second : (a b : Bool) → b ≡ false → a && b ≡ false
 never_second true b e = e
@@ -42,10 +44,8 @@ module _ (l : List ℕ) (from : ℕ) (w : Walk) (i : ℕ) (bytes : List ℕ) whe
   pub no_room : length l < size → Leaves 0 l
   no_room h = third (never_second (leb from 261960) (leb size (length l)) (lt-leb size (length l) h))
 
-  pub no_place : ltb from 8 || ltb 261960 from ≡ true → Leaves 0 l
-  no_place e =
-      ⊎_elim (λ t. second (rw (lt-leb 8 from (omega (arith, tests, t))))) (λ t. third (rw (lt-leb from 261960 (omega (arith, tests, t)))))
-      (either (ltb from 8) (ltb 261960 from) (passes (ltb from 8 || ltb 261960 from) e))
+  pub no_place : (from < 8) ⊎ ((8 ≤ from) × (261960 < from)) → Leaves 0 l
+  no_place = ⊎_elim (λ h. second (rw (lt-leb 8 from h))) (λ h. third (rw (lt-leb from 261960 h.1)))
 
   pub all_laid : i + length bytes / 4 ≤ 16372 → (8 ≤ from) × (from ≤ 261960) → size ≤ length l → Leaves size laid
   all_laid a b c =
@@ -73,11 +73,25 @@ module _ (l : List ℕ) (from : ℕ) (w : Walk) (i : ℕ) (bytes : List ℕ) (a 
       (λ h. let k = all_laid l from w i bytes a b (leb-true all (length l) h) in (leb-true all (length l) h, e ∙ sym k.0, sym k.1))
       (λ h. absurd (n (e ∙ sym (no_room l from w i bytes (leb-false all (length l) h)).0)))
 
-pub in_place : (from : ℕ) → ltb from 8 || ltb 261960 from ≡ false → (8 ≤ from) × (from ≤ 261960)
-in_place from e =
-    case (ltb from 8)
-    (λ p. let q = rw p at e in absurd (subst T q tt))
-    (λ p. let q = rw p at e in (ltb-false from 8 p, ltb-false 261960 from q))
+-- the size by records that stand apart
+pub same_size :
+    (l : List ℕ) (from : ℕ) (w : Walk) (i : ℕ) (bytes : List ℕ) (rs : List (List ℕ)) → rs ≡ first_chunks 4 (length bytes / 4) bytes
+    → from + 16 * length (laid_by w i (coded_all rs)) ≡ size_with l from w i bytes
+same_size l from w i bytes rs e = ap (λ cs. from + 16 * length (laid_by w i cs)) (same_coded bytes rs e)
+
+-- what a size answers
+pub some_size : (r n : ℕ) → r ≡ n → ¬ (r ≡ 0) → Some r ≡ unless_0 n
+some_size zero n e m = absurd (m refl)
+some_size (suc r) n e m = ap unless_0 e
+
+pub size_none : (n : ℕ) → None ≡ unless_0 n → n ≡ 0
+size_none zero e = refl
+size_none (suc n) e = cc
+
+pub size_some : (r n : ℕ) → Some r ≡ unless_0 n → (r ≡ n) × ¬ (r ≡ 0)
+size_some r zero e = cc
+size_some zero (suc n) e = cc
+size_some (suc r) (suc n) e = (cc, λ z. omega arith)
 
 -- the header is stored as two numbers
 pub header_stored : (l : List ℕ) (n : ℕ) → sets (sets l 0 (bytes_of (halves n []))) 4 (bytes_of (halves 8 [])) ≡ sets l 0 (bytes_of (header_of n))

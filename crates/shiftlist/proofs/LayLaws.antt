@@ -1,70 +1,38 @@
 -- Laws on laying entries along the records of a part: one record, by what the calls answer, the end, and how many there are at most.
 -- Assumes nothing.
-use Rattle.std.proofs.Common.{◌≡◌, ℕ, zero, suc, ◌+◌, ◌-◌, ◌*◌, ◌/◌, ◌<◌, ◌≤◌, Bool, true, false, cond, T, eqb, leb, List, [], ◌∷◌, length, get_or, drop, sym, refl, ap, ◌∙◌, subst, add-one, arith, eqb→eq, leb→le, length-drop, drop-cons, eq-eqb, ne_eqb, leb-false, leb-true}
-use native.Mathlib.Numerals.{towards_suc}
+use Rattle.std.proofs.Common.{◌≡◌, ℕ, zero, suc, ◌+◌, ◌*◌, ◌/◌, ◌<◌, ◌≤◌, Bool, true, false, cond, eqb, leb, List, [], ◌∷◌, length, get_or, drop, sym, refl, ap, ◌∙◌, add-one, arith, eqb→eq, leb→le, drop-cons, eq-eqb, ne_eqb, drop_of_length-le, leb-true}
 use lib.Seq.{sets}
 use borrow.Author.Tests.{lt-leb}
-use Rattle.checks.proofs.Tests.{case, left, right, passed, passes}
+use Rattle.std.proofs.lemmas.List.{length-map}
+use mir.Val.{bool_byte}
+use Rattle.checks.proofs.Tests.{case, left, right, passes}
 use Rattle.checks.proofs.Ranges.{from}
+use Rattle.std.specs.Simd.{first_chunks}
 use Rattle.numbers.specs.Bytes.{bytes_of}
 use Rattle.phases.specs.Phases.{next_of, unfinished}
-use Rattle.trace.specs.Traces.{Trace, entering, phase_by}
+use Rattle.trace.specs.Traces.{entering, phase_by}
 use Rattle.shiftlist.specs.declared.Shift.{Shift}
 use Rattle.shiftlist.specs.declared.walk.Walk.{Walk}
 use Rattle.shiftlist.specs.Lists.{entries_of}
-use Rattle.shiftlist.specs.Walks.{Coded, coded_in, kind_by, is_request, is_still, clock_by, holding, trace_in, in_hand, further, ticked, stepped_by, walked_by, takes_on, closes, with, laid_by, last_before}
+use Rattle.shiftlist.specs.Walks.{Coded, coded, coded_in, coded_all, kind_by, is_still, clock_by, holding, trace_in, in_hand, further, ticked, stepped_by, walked_by, takes_on, closes, with, laid_by}
 use Rattle.shiftlist.proofs.StoreLaws.{with_first, with-length, one_at_most, never}
 
--- ---- the records from an index on
-abbrev pub rest_of : List ℕ → ℕ → List Coded
-rest_of l i = coded_in (drop (4 * i) l)
+-- ---- records that stand apart, which are the records of the bytes
+same_records : (l : List ℕ) → coded_all (first_chunks 4 (length l / 4) l) ≡ coded_in l
+same_records l = by (length l / 4) l (omega arith) (omega arith)
+  where
+    by : (k : ℕ) (l : List ℕ) → 4 * k ≤ length l → length l ≤ 4 * k + 3 → coded_all (first_chunks 4 k l) ≡ coded_in l
+    by zero [] g h = refl
+    by zero (a ∷ []) g h = refl
+    by zero (a ∷ b ∷ []) g h = refl
+    by zero (a ∷ b ∷ c ∷ []) g h = refl
+    by zero (a ∷ b ∷ c ∷ d ∷ l) g h = absurd (omega arith)
+    by (suc k) [] g h = absurd (omega arith)
+    by (suc k) (a ∷ []) g h = absurd (omega arith)
+    by (suc k) (a ∷ b ∷ []) g h = absurd (omega arith)
+    by (suc k) (a ∷ b ∷ c ∷ []) g h = absurd (omega arith)
+    by (suc k) (a ∷ b ∷ c ∷ d ∷ l) g h = ap (λ cs. coded a b c d ∷ cs) (by k l (omega arith) (omega arith))
 
-module _ (l : List ℕ) (i : ℕ) (inside : 4 * i + 3 < length l) where
-  abbrev pub code : ℕ
-  code = get_or l (4 * i) 0
-
-  abbrev pub amount : ℕ
-  amount = get_or l (4 * i + 2) 0 + 256 * get_or l (4 * i + 3) 0
-
-  pub one : rest_of l i ≡ record { code = code; amount = amount } ∷ rest_of l (i + 1)
-  one =
-      let a = drop-cons l (4 * i) 0 (omega arith) in
-      let b = drop-cons l (suc (4 * i)) 0 (omega arith) in
-      let c = drop-cons l (suc (suc (4 * i))) 0 (omega arith) in
-      let d = drop-cons l (suc (suc (suc (4 * i)))) 0 (omega arith) in
-      let next : 4 * (i + 1) ≡ suc (suc (suc (suc (4 * i)))) = omega arith in
-      rw (next, a, b, c, d) (simp towards_suc)
-
--- fewer than four bytes are no record
-short : (l : List ℕ) → length l < 4 → coded_in l ≡ []
-short [] h = refl
-short (a ∷ []) h = refl
-short (a ∷ b ∷ []) h = refl
-short (a ∷ b ∷ c ∷ []) h = refl
-short (a ∷ b ∷ c ∷ d ∷ l) h = absurd (omega arith)
-
-pub none_left : (l : List ℕ) (i : ℕ) → length l ≤ 4 * i + 3 → rest_of l i ≡ []
-none_left l i h = short (drop (4 * i) l) (simp length-drop (omega arith))
-
--- ---- the record i of a part, which is the record n of its file: v is the walk after it
-module _
-    (l : List ℕ) (i : ℕ) (inside : 4 * i + 3 < length l) (w : Walk) (n m : ℕ) (em : n + 1 ≡ m) (v : Walk) (a : ℕ)
-    (ea : a ≡ amount l i inside) (ev : v ≡ walked_by w n (code l i inside) a) where
-  abbrev pub b : Bool
-  b = closes w.phase v.phase
-
-  abbrev pub rest : List Shift
-  rest = laid_by v m (rest_of l (i + 1))
-
-  pub made : laid_by w n (rest_of l i) ≡ with b (in_hand v) rest
-  made =
-      let k : suc n ≡ m = omega arith in
-      ap (laid_by w n) (one l i inside)
-      ∙ ap (λ q. with (closes w.phase (walked_by w n (code l i inside) q).phase) (in_hand (walked_by w n (code l i inside) q)) (laid_by (walked_by w n (code l i inside) q) (suc n) (rest_of l (i + 1)))) (sym ea)
-      ∙ ap (λ (u : Walk). with (closes w.phase u.phase) (in_hand u) (laid_by u (suc n) (rest_of l (i + 1)))) (sym ev)
-      ∙ ap (λ q. with b (in_hand v) (laid_by v q (rest_of l (i + 1)))) k
-
--- ---- a record that ends no shift: a tick, one of the steps that change the stage alone, a take that goes on
 same_phase : (p : ℕ) → closes p p ≡ false
 same_phase p = case (leb p 21) (λ e. let l = leb-true p 21 e in rw (e, lt-leb 22 p (omega arith))) (λ e. rw e)
 
@@ -84,63 +52,75 @@ gone_on w n q = holding w.clock q w.first n w.kind w.route w.request_time
 takes_is : (w : Walk) (n c a : ℕ) → c ≡ 8 → gone_on w n (next_of w.phase) ≡ walked_by w n c a
 takes_is w n c a e = ap (λ j. walked_by w n j a) (sym e)
 
-module _ (l : List ℕ) (i : ℕ) (inside : 4 * i + 3 < length l) (w : Walk) (n m : ℕ) (em : n + 1 ≡ m) where
-  abbrev c : ℕ
-  c = code l i inside
+pub same_coded : (l : List ℕ) (rs : List (List ℕ)) → rs ≡ first_chunks 4 (length l / 4) l → coded_all rs ≡ coded_in l
+same_coded l rs e = ap coded_all e ∙ same_records l
 
-  abbrev a : ℕ
-  a = amount l i inside
+abbrev pub code_at : List (List ℕ) → ℕ → ℕ
+code_at rs i = get_or (get_or rs i []) 0 0
 
-  open_on : (v : Walk) → v ≡ walked_by w n c a → closes w.phase v.phase ≡ false → laid_by w n (rest_of l i) ≡ laid_by v m (rest_of l (i + 1))
-  open_on v e f = made l i inside w n m em v a refl e ∙ ap (λ b. with b (in_hand v) (laid_by v m (rest_of l (i + 1)))) f
+abbrev pub amount_at : List (List ℕ) → ℕ → ℕ
+amount_at rs i = get_or (get_or rs i []) 2 0 + 256 * get_or (get_or rs i []) 3 0
 
-  pub tick_made : c ≡ 12 → (k : ℕ) → k ≡ clock_by w.clock a → laid_by w n (rest_of l i) ≡ laid_by (ticked w n k) m (rest_of l (i + 1))
-  tick_made e k ek = open_on (ticked w n k) (ap (ticked w n) ek ∙ ap (λ b. cond b (ticked w n (clock_by w.clock a)) (stepped_by w n c)) (sym (eq-eqb c 12 e))) (same_phase w.phase)
+-- ---- the record i of such, which is the record n of its file, and the one behind it is the record m
+module _ (rs : List (List ℕ)) (i : ℕ) (inside : i < length rs) (w : Walk) (n m : ℕ) (em : n + 1 ≡ m) where
+  abbrev code : ℕ
+  code = code_at rs i
 
-  pub still_made : is_still c ≡ true → laid_by w n (rest_of l i) ≡ laid_by (ticked w n w.clock) m (rest_of l (i + 1))
-  still_made e = open_on (ticked w n w.clock) (still_is w n c a e) (same_phase w.phase)
+  abbrev amount : ℕ
+  amount = amount_at rs i
 
-  pub takes_made : takes_on w.phase c ≡ true → (q : ℕ) → q ≡ next_of w.phase → laid_by w n (rest_of l i) ≡ laid_by (gone_on w n q) m (rest_of l (i + 1))
+  abbrev pub before : List Shift
+  before = laid_by w n (coded_all (drop i rs))
+
+  abbrev pub after : Walk → List Shift
+  after v = laid_by v m (coded_all (drop (i + 1) rs))
+
+  pub made : (v : Walk) → v ≡ walked_by w n code amount → before ≡ with (closes w.phase v.phase) (in_hand v) (after v)
+  made v e =
+      let k : suc n ≡ m = omega arith in
+      ap (λ q. laid_by w n (coded_all q)) (drop-cons rs i [] inside)
+      ∙ ap (λ (u : Walk). with (closes w.phase u.phase) (in_hand u) (laid_by u (suc n) (coded_all (drop (suc i) rs)))) (sym e)
+      ∙ ap (λ q. with (closes w.phase v.phase) (in_hand v) (laid_by v q (coded_all (drop (suc i) rs)))) k
+      ∙ ap (λ q. with (closes w.phase v.phase) (in_hand v) (laid_by v m (coded_all (drop q rs)))) (sym (add-one i))
+
+  -- a record that ends no shift: a tick, one of the steps that change the stage alone, a take that goes on
+  pub open_on : (v : Walk) → v ≡ walked_by w n code amount → closes w.phase v.phase ≡ false → before ≡ after v
+  open_on v e f = made v e ∙ ap (λ b. with b (in_hand v) (after v)) f
+
+  pub tick_made : code ≡ 12 → (k : ℕ) → k ≡ clock_by w.clock amount → before ≡ after (ticked w n k)
+  tick_made e k ek =
+      open_on (ticked w n k)
+      (ap (ticked w n) ek ∙ ap (λ b. cond b (ticked w n (clock_by w.clock amount)) (stepped_by w n code)) (sym (eq-eqb code 12 e)))
+      (same_phase w.phase)
+
+  pub still_made : is_still code ≡ true → before ≡ after (ticked w n w.clock)
+  still_made e = open_on (ticked w n w.clock) (still_is w n code amount e) (same_phase w.phase)
+
+  pub takes_made : takes_on w.phase code ≡ true → (q : ℕ) → q ≡ next_of w.phase → before ≡ after (gone_on w n q)
   takes_made e q eq =
-      let t = passes (takes_on w.phase c) e in
-      let small = leb→le (next_of w.phase) 21 (right (eqb c 8) (leb (next_of w.phase) 21) t) in
-      open_on (gone_on w n q) (ap (gone_on w n) eq ∙ takes_is w n c a (eqb→eq c 8 (left (eqb c 8) (leb (next_of w.phase) 21) t)))
+      let t = passes (takes_on w.phase code) e in
+      let small = leb→le (next_of w.phase) 21 (right (eqb code 8) (leb (next_of w.phase) 21) t) in
+      open_on (gone_on w n q)
+      (ap (gone_on w n) eq ∙ takes_is w n code amount (eqb→eq code 8 (left (eqb code 8) (leb (next_of w.phase) 21) t)))
       (never (leb w.phase 21) (leb 22 q) (lt-leb 22 q (omega (arith, small, eq))))
 
 -- ---- any other record
 pub other_is : (w : Walk) (n c a : ℕ) → ¬ (c ≡ 12) → stepped_by w n c ≡ walked_by w n c a
 other_is w n c a e = ap (λ b. cond b (ticked w n (clock_by w.clock a)) (stepped_by w n c)) (sym (ne_eqb c 12 e))
 
--- the last record before it does not matter, and afterwards it is the last one
-pub last_goes : (clock phase first last last' kind route time n c : ℕ) → stepped_by (holding clock phase first last kind route time) n c ≡ stepped_by (holding clock phase first last' kind route time) n c
-last_goes clock phase first last last' kind route time n c = by (kind_by c)
+-- the last record before it does not matter
+pub last_goes : (w : Walk) (last n c : ℕ) → stepped_by (record w { last = last }) n c ≡ stepped_by w n c
+last_goes w last n c = by (kind_by c)
   where
     by :
-        (k : ℕ) → further k (holding clock phase first last kind route time) n (eqb c 9) (entering (phase_by phase c) record { clock = clock; phase = phase })
-        ≡ further k (holding clock phase first last' kind route time) n (eqb c 9) (entering (phase_by phase c) record { clock = clock; phase = phase })
+        (k : ℕ) → further k (record w { last = last }) n (eqb c 9) (entering (phase_by w.phase c) (trace_in w))
+        ≡ further k w n (eqb c 9) (entering (phase_by w.phase c) (trace_in w))
     by zero = refl
     by (suc k) = refl
 
-pub stepped_holds : (w : Walk) (n c : ℕ) (v : Walk) → v ≡ stepped_by w n c → holding w.clock v.phase v.first n v.kind v.route v.request_time ≡ v
-stepped_holds w n c v e =
-    ap (λ (u : Walk). holding w.clock u.phase u.first n u.kind u.route u.request_time) e ∙ by (kind_by c) ∙ sym e
-  where
-    by :
-        (k : ℕ)
-        → (let u = further k w n (eqb c 9) (entering (phase_by w.phase c) (trace_in w)) in
-        holding w.clock u.phase u.first n u.kind u.route u.request_time ≡ u)
-    by zero = refl
-    by (suc k) = refl
-
-pub none_before : (last from i : ℕ) → i ≡ 0 → last ≡ last_before last from i
-none_before last from i e = ap (last_before last from) (sym e)
-
-pub one_before : (last from i : ℕ) → ¬ (i ≡ 0) → from + (i - 1) ≡ last_before last from i
-one_before last from zero n = absurd (n refl)
-one_before last from (suc i) n = omega arith
-
-pub next_last : (last from i : ℕ) → last_before last from (i + 1) ≡ from + i
-next_last last from i = rw (add-one i)
+-- ---- no record is left
+pub at_end : (rs : List (List ℕ)) (i : ℕ) (w : Walk) (n : ℕ) → length rs ≤ i → laid_by w n (coded_all (drop i rs)) ≡ with (unfinished w.phase) (in_hand w) []
+at_end rs i w n h = ap (λ q. laid_by w n (coded_all q)) (drop_of_length-le rs {i = i} h)
 
 -- ---- what is laid, and what is still to be laid from a place on, are the whole
 abbrev pub Left : List ℕ → ℕ → List Shift → List ℕ → ℕ → List Shift → Type 0
@@ -161,13 +141,16 @@ one_laid list₀ from all list p b e es list' p' ep el h =
           ∙ ap (λ o. sets o p' (bytes_of (entries_of es))) (sym el),
     )
 
--- ---- no record is left
-pub at_end : (l : List ℕ) (i : ℕ) (w : Walk) (n : ℕ) → length l ≤ 4 * i + 3 → laid_by w n (rest_of l i) ≡ with (unfinished w.phase) (in_hand w) []
-at_end l i w n h = ap (laid_by w n) (none_left l i h)
-
 -- ---- at most an entry a record, and one for an open shift
 abbrev pub open_at : ℕ → ℕ
 open_at phase = cond (unfinished phase) 1 0
+
+pub one_if_open : (phase : ℕ) → bool_byte (unfinished phase) ≡ open_at phase
+one_if_open phase = by (unfinished phase)
+  where
+    by : (b : Bool) → bool_byte b ≡ cond b 1 0
+    by true = refl
+    by false = refl
 
 pub at_most_one : (b : Bool) → cond {A = ℕ} b 1 0 ≤ 1
 at_most_one true = omega arith
@@ -194,26 +177,5 @@ laid_at_most w i (c ∷ cs) =
     let e = with-length (closes w.phase v.phase) (in_hand v) rest in
     omega (arith, h, k, e)
 
-pub codes_long : (l : List ℕ) → length (coded_in l) ≡ length l / 4
-codes_long [] = refl
-codes_long (a ∷ []) = refl
-codes_long (a ∷ b ∷ []) = refl
-codes_long (a ∷ b ∷ c ∷ []) = refl
-codes_long (a ∷ b ∷ c ∷ d ∷ l) = let h = codes_long l in omega arith
-
--- ---- a request by its code
-pub request_made :
-    (code : ℕ) (w : Walk) (i : ℕ) (b : Bool) (t : Trace) → is_request code ≡ true
-    → holding t.clock t.phase i i code 0 w.clock ≡ further (kind_by code) w i b t
-request_made zero w i b t e = absurd (subst T (sym e) tt)
-request_made (suc k) w i b t e =
-    rw (passed (leb (suc k) 3) (right (leb 1 (suc k)) (leb (suc k) 3) (passes (is_request (suc k)) e)))
-
-pub no_request : (code : ℕ) → is_request code ≡ false → kind_by code ≡ 0
-no_request code e =
-    case (leb code 3)
-    (λ h.
-    case (leb 1 code)
-    (λ g. let q = rw (g, h) at e in absurd (subst T q tt))
-    (λ g. let z : code ≡ 0 = omega (arith, leb-false 1 code g) in rw z))
-    (λ h. rw h)
+pub as_many : (rs : List (List ℕ)) → length (coded_all rs) ≡ length rs
+as_many rs = length-map rs _

@@ -5,7 +5,7 @@ use borrow.Author.Tests.{eqb-false}
 use Rattle.checks.proofs.Tests.{case}
 use Rattle.promises.specs.Verdicts.{at}
 use Rattle.shift.specs.declared.State.{State}
-use Rattle.shift.specs.declared.Reading.{Reading}
+use Rattle.shift.specs.Readings.{Reading}
 use Rattle.shiftlist.specs.declared.Shift.{Shift}
 use Rattle.shiftlist.specs.Shifts.{kind_of, end_of}
 use Rattle.shiftlist.specs.Entries.{Asked, EntryOf, before, phase_after, Entry, Entries}

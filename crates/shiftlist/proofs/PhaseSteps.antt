@@ -1,5 +1,6 @@
 -- What a step that its phase allows does to a shift: it begins one, goes on with it, ends it, or is outside of any.
 -- Assumes nothing.
+use Rattle.std.specs.Prelude.{Ok}
 use Rattle.std.proofs.Common.{◌≡◌, ℕ, suc, ◌<◌, ◌≤◌, Bool, true, false, ◌&&◌, T, eqb, leb, refl, arith, ne_eqb, eqb-true, le-leb, leb-false, leb-true}
 use borrow.Author.Tests.{lt-leb, eqb-false}
 use Rattle.checks.proofs.Tests.{passed, left, right, case}
@@ -8,7 +9,6 @@ use Rattle.phases.specs.Phases.{next_of, clutch_of, unfinished, engine}
 use Rattle.phases.proofs.PhaseLaws.{unfinished_in, next_listed, clutch_listed}
 use Rattle.shift.specs.declared.Step.{Step}
 use Rattle.shift.specs.declared.Step.TheVariants.{FromNeutral, GearToGear, ToNeutral, Deliver, DeviceGood, DeviceFailed, EngineWaits, Take, AskClutch, RaiseError, Finish, Tick, Reset}
-use Rattle.shift.specs.declared.Reading.TheVariants.{Means}
 use Rattle.trace.specs.Traces.{Trace, stepped}
 use Rattle.trace.proofs.TraceLaws.{allowed_in}
 use Rattle.shiftlist.specs.Shifts.{kind_of, end_of}
@@ -60,7 +60,7 @@ waits p =
 asked : (k p q : ℕ) → eqb p 0 ≡ true → unfinished q ≡ true → leb 22 q ≡ false → end_of q ≡ 0 → Moves (suc k) p q
 asked k p q e u c z = let r = eqb-true p 0 e in begins k refl (rw r) u (rw (r, c)) z
 
-pub moves : (t : Trace) (x : Step) → T (allowed_in t.phase x) → Moves (kind_of (Means x)) t.phase (stepped t x).phase
+pub moves : (t : Trace) (x : Step) → T (allowed_in t.phase x) → Moves (kind_of (Ok x)) t.phase (stepped t x).phase
 moves t FromNeutral h = asked 0 t.phase 1 (passed (eqb t.phase 0) h) refl refl refl
 moves t GearToGear h = asked 1 t.phase 6 (passed (eqb t.phase 0) h) refl refl refl
 moves t ToNeutral h = asked 2 t.phase 17 (passed (eqb t.phase 0) h) refl refl refl

@@ -1,13 +1,14 @@
 -- Laws on one record and its shift: a request and its kind, an ask clutch, the phases that end it; the clock never goes back.
 -- Assumes nothing.
+use Rattle.std.specs.Prelude.{Ok, Err}
 use Rattle.std.proofs.Common.{◌≡◌, ℕ, zero, suc, ◌<◌, ◌≤◌, Bool, true, false, ◌||◌, T, eqb, ◌⊎◌, List, [], ◌∷◌, take, sym, refl, ap, ◌∙◌, subst, inl, inr, ⊎_elim, arith, eqb-true}
 use Rattle.checks.proofs.Tests.{case, either}
 use Rattle.promises.specs.Verdicts.{at}
 use Rattle.shift.specs.declared.State.{State}
 use Rattle.shift.specs.declared.Step.{Step}
 use Rattle.shift.specs.declared.Step.TheVariants.{FromNeutral, GearToGear, ToNeutral, Deliver, DeviceGood, DeviceFailed, EngineWaits, Take, AskClutch, RaiseError, Finish, Tick, Reset}
-use Rattle.shift.specs.declared.Reading.{Reading}
-use Rattle.shift.specs.declared.Reading.TheVariants.{Means, WrongCode, WrongAmount}
+use Rattle.shift.specs.Readings.{Reading}
+use Rattle.shift.specs.declared.Misread.TheVariants.{WrongCode, WrongAmount}
 use Rattle.shift.specs.Answers.{led}
 use Rattle.shiftlist.specs.Shifts.{kind_in, asks_in, kind_of, asks, end_of}
 use Rattle.shiftlist.specs.Entries.{RequestOf}
@@ -32,7 +33,7 @@ pub record Begins (s : State) (r : Reading) (code : ℕ) : Type 0 where
   pub same_clock : (led s r).clock ≡ s.clock
   pub asks_not : asks r ≡ false
 
-begins_in : (s : State) (x : Step) (k : ℕ) → kind_in x ≡ suc k → Begins s (Means x) (suc k)
+begins_in : (s : State) (x : Step) (k : ℕ) → kind_in x ≡ suc k → Begins s (Ok x) (suc k)
 begins_in s FromNeutral k e = record { request = inl (refl, sym e); still_open = refl; same_clock = refl; asks_not = refl }
 begins_in s GearToGear k e = record { request = inr (inl (refl, sym e)); still_open = refl; same_clock = refl; asks_not = refl }
 begins_in s ToNeutral k e = record { request = inr (inr (refl, sym e)); still_open = refl; same_clock = refl; asks_not = refl }
@@ -48,12 +49,12 @@ begins_in s (Tick n) k e = absurd (omega arith)
 begins_in s Reset k e = absurd (omega arith)
 
 pub begins : (s : State) (r : Reading) (k : ℕ) → kind_of r ≡ suc k → Begins s r (suc k)
-begins s (Means x) k e = begins_in s x k e
-begins s WrongCode k e = absurd (omega arith)
-begins s WrongAmount k e = absurd (omega arith)
+begins s (Ok x) k e = begins_in s x k e
+begins s (Err WrongCode) k e = absurd (omega arith)
+begins s (Err WrongAmount) k e = absurd (omega arith)
 
 -- ---- the clock never goes back
-goes_on_in : (s : State) (x : Step) → s.clock ≤ (led s (Means x)).clock
+goes_on_in : (s : State) (x : Step) → s.clock ≤ (led s (Ok x)).clock
 goes_on_in s FromNeutral = omega arith
 goes_on_in s GearToGear = omega arith
 goes_on_in s ToNeutral = omega arith
@@ -69,12 +70,12 @@ goes_on_in s (Tick n) = omega arith
 goes_on_in s Reset = omega arith
 
 pub clock_goes_on : (s : State) (r : Reading) → s.clock ≤ (led s r).clock
-clock_goes_on s (Means x) = goes_on_in s x
-clock_goes_on s WrongCode = omega arith
-clock_goes_on s WrongAmount = omega arith
+clock_goes_on s (Ok x) = goes_on_in s x
+clock_goes_on s (Err WrongCode) = omega arith
+clock_goes_on s (Err WrongAmount) = omega arith
 
 -- ---- an ask clutch, and one among the first records
-asks_in_lem : (x : Step) → T (asks_in x) → Means x ≡ Means AskClutch
+asks_in_lem : (x : Step) → T (asks_in x) → ◌≡◌ {A = Reading} (Ok x) (Ok AskClutch)
 asks_in_lem FromNeutral t = absurd t
 asks_in_lem GearToGear t = absurd t
 asks_in_lem ToNeutral t = absurd t
@@ -89,12 +90,12 @@ asks_in_lem Finish t = absurd t
 asks_in_lem (Tick n) t = absurd t
 asks_in_lem Reset t = absurd t
 
-asks_is : (r : Reading) → T (asks r) → r ≡ Means AskClutch
-asks_is (Means x) t = asks_in_lem x t
-asks_is WrongCode t = absurd t
-asks_is WrongAmount t = absurd t
+asks_is : (r : Reading) → T (asks r) → r ≡ Ok AskClutch
+asks_is (Ok x) t = asks_in_lem x t
+asks_is (Err WrongCode) t = absurd t
+asks_is (Err WrongAmount) t = absurd t
 
-is_asks : (r : Reading) → r ≡ Means AskClutch → T (asks r)
+is_asks : (r : Reading) → r ≡ Ok AskClutch → T (asks r)
 is_asks r e = subst (λ q. T (asks q)) (sym e) tt
 
 abbrev pub asked : List Reading → Bool
@@ -105,7 +106,7 @@ asked (r ∷ rs) = asks r || asked rs
 pub record AskedBelow (rs : List Reading) (n : ℕ) : Type 0 where
   pub index : ℕ
   pub below : index < n
-  pub there : at rs index ≡ Means AskClutch
+  pub there : at rs index ≡ Ok AskClutch
 
 one_of_two : (a b : Bool) → T a ⊎ T b → T (a || b)
 one_of_two true b h = tt
@@ -122,9 +123,9 @@ asked_there (r ∷ rs) (suc n) t =
     record { index = suc g.index; below = omega (arith, g.below); there = g.there })
     (either (asks r) (asked (take n rs)) t)
 
-pub there_asked : (rs : List Reading) (n k : ℕ) → k < n → at rs k ≡ Means AskClutch → T (asked (take n rs))
+pub there_asked : (rs : List Reading) (n k : ℕ) → k < n → at rs k ≡ Ok AskClutch → T (asked (take n rs))
 there_asked rs zero k l e = absurd (omega arith)
-there_asked [] (suc n) k l e = absurd (is_asks WrongCode e)
+there_asked [] (suc n) k l e = absurd (is_asks (Err WrongCode) e)
 there_asked (r ∷ rs) (suc n) zero l e = one_of_two (asks r) (asked (take n rs)) (inl (is_asks r e))
 there_asked (r ∷ rs) (suc n) (suc k) l e =
     one_of_two (asks r) (asked (take n rs)) (inr (there_asked rs n k (omega arith) e))

@@ -3,27 +3,11 @@
 use Rattle.std.proofs.Common.{◌≡◌, ℕ, suc, ◌+◌, ◌-◌, ◌*◌, ◌<◌, ◌≤◌, Bool, true, false, ◌&&◌, List, [], ◌∷◌, ◌++◌, length, take, drop, set, sym, refl, ap, ◌∙◌, append_assoc, append-nil, add-zero, arith, drop_of_length-le}
 use lib.Seq.{sets, sets-eq, set_comm}
 use borrow.Rule.Slice.PartMut.{mid_of, put_mid, mid_len, Post-is}
-use Rattle.numbers.specs.Bytes.{bytes_of, halves}
-use Rattle.numbers.proofs.StoreLaws.{sets-append, at_start, next16, next32}
+use Rattle.numbers.specs.Bytes.{bytes_of}
+use Rattle.numbers.proofs.StoreLaws.{sets-append, at_start}
 use Rattle.shiftlist.specs.declared.Shift.{Shift}
 use Rattle.shiftlist.specs.Lists.{numbers_of, entries_of}
 use Rattle.shiftlist.specs.Walks.{with}
-
--- the numbers of an entry, one after the other
-pub numbers_stored :
-    (l : List ℕ) (p a b c d e f : ℕ)
-    → sets (sets (sets (sets (sets (sets l p (bytes_of (a ∷ []))) (p + 2) (bytes_of (b ∷ []))) (p + 4) (bytes_of (c ∷ []))) (p + 6) (bytes_of (d ∷ []))) (p + 8) (bytes_of (halves e []))) (p + 12) (bytes_of (halves f []))
-    ≡ sets l p (bytes_of (a ∷ b ∷ c ∷ d ∷ halves e (halves f [])))
-numbers_stored l p a b c d e f =
-    let l1 = sets l p (bytes_of (a ∷ [])) in
-    let l2 = sets l1 (p + 2) (bytes_of (b ∷ [])) in
-    let l3 = sets l2 (p + 4) (bytes_of (c ∷ [])) in
-    let l4 = sets l3 (p + 6) (bytes_of (d ∷ [])) in
-    sym (next16 l p (p + 2) a (b ∷ c ∷ d ∷ halves e (halves f [])) refl
-    ∙ next16 l1 (p + 2) (p + 4) b (c ∷ d ∷ halves e (halves f [])) (omega arith)
-    ∙ next16 l2 (p + 4) (p + 6) c (d ∷ halves e (halves f [])) (omega arith)
-    ∙ next16 l3 (p + 6) (p + 8) d (halves e (halves f [])) (omega arith)
-    ∙ next32 l4 (p + 8) (p + 12) e (halves f []) (omega arith))
 
 -- one entry or none, then the others
 pub with_first :

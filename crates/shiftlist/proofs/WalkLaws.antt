@@ -1,12 +1,13 @@
 -- The walk makes the shifts of the definition, on every list that is sound along its trace.
 -- Assumes nothing.
+use Rattle.std.specs.Prelude.{Ok, Err}
 use Rattle.std.proofs.Common.{◌≡◌, ℕ, zero, suc, ◌+◌, ◌-◌, Bool, true, false, List, [], ◌∷◌, ◌++◌, length, sym, refl, ap, ◌∙◌, subst, add-zero, arith}
 use Rattle.phases.specs.Phases.{unfinished}
 use Rattle.shift.specs.declared.State.{State}
 use Rattle.shift.specs.declared.Step.{Step}
 use Rattle.shift.specs.declared.Step.TheVariants.{FromNeutral, GearToGear, ToNeutral, Deliver, DeviceGood, DeviceFailed, EngineWaits, Take, AskClutch, RaiseError, Finish, Tick, Reset}
-use Rattle.shift.specs.declared.Reading.{Reading}
-use Rattle.shift.specs.declared.Reading.TheVariants.{Means, WrongCode, WrongAmount}
+use Rattle.shift.specs.Readings.{Reading}
+use Rattle.shift.specs.declared.Misread.TheVariants.{WrongCode, WrongAmount}
 use Rattle.shift.specs.Answers.{led}
 use Rattle.trace.specs.Traces.{Trace, trace_of, after, stepped}
 use Rattle.trace.proofs.TraceLaws.{projects, Sound}
@@ -103,7 +104,7 @@ module _ (w : Walk) (i : ℕ) (r : Reading) (t : Trace) (rs : List Reading) wher
   one_step zero (rests e u v c) q = rw (c, v, u)
   one_step (suc k) (rests e u v c) q = absurd (omega arith)
 
-clock_kept : (t : Trace) (x : Step) → ¬ (kind_of (Means x) ≡ 0) → (stepped t x).clock ≡ t.clock
+clock_kept : (t : Trace) (x : Step) → ¬ (kind_of (Ok x) ≡ 0) → (stepped t x).clock ≡ t.clock
 clock_kept t FromNeutral n = refl
 clock_kept t GearToGear n = refl
 clock_kept t ToNeutral n = refl
@@ -125,8 +126,8 @@ same_trace (suc k) w i b t = refl
 -- the walk makes what is still to come
 pub makes : (w : Walk) (i : ℕ) (rs : List Reading) → Sound (trace_in w) rs → listed w i rs ≡ to_come w i rs
 makes w i [] h = refl
-makes w i (Means x ∷ rs) h =
-    let r = Means x in
+makes w i (Ok x ∷ rs) h =
+    let r = Ok x in
     let t = stepped (trace_in w) x in
     let w' = walked w i r in
     let e = same_trace (kind_of r) w i (asks r) t in
@@ -134,8 +135,8 @@ makes w i (Means x ∷ rs) h =
     ap (λ (q : Trace). with (closes w.phase q.phase) (in_hand w') (listed w' (suc i) rs)) e
     ∙ ap (with (closes w.phase t.phase) (in_hand w')) rest
     ∙ one_step w i r t rs (kind_of r) (moves (trace_in w) x h.0) (clock_kept (trace_in w) x)
-makes w i (WrongCode ∷ rs) h = absurd h
-makes w i (WrongAmount ∷ rs) h = absurd h
+makes w i (Err WrongCode ∷ rs) h = absurd h
+makes w i (Err WrongAmount ∷ rs) h = absurd h
 
 -- ---- a list in two pieces: what was made stays, and the walk goes on with what is in hand
 with_append : (b : Bool) (e : Shift) (xs ys : List Shift) → with b e (xs ++ ys) ≡ with b e xs ++ ys

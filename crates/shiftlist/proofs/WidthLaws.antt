@@ -1,10 +1,11 @@
 -- The fields of an entry of an accepted file fit their widths, and so does the count of its shifts.
 -- Assumes nothing.
+use Rattle.std.specs.Prelude.{Ok, Err}
 use Rattle.std.proofs.Common.{◌≡◌, ℕ, zero, suc, ◌<◌, ◌≤◌, List, [], ◌∷◌, length, get_or, sym, subst, ⊎_elim, arith}
 use Rattle.promises.specs.Verdicts.{at}
 use Rattle.shift.specs.declared.State.{State}
-use Rattle.shift.specs.declared.Reading.{Reading}
-use Rattle.shift.specs.declared.Reading.TheVariants.{Means, WrongCode, WrongAmount}
+use Rattle.shift.specs.Readings.{Reading}
+use Rattle.shift.specs.declared.Misread.TheVariants.{WrongCode, WrongAmount}
 use Rattle.shift.specs.States.{start}
 use Rattle.shift.specs.Answers.{led}
 use Rattle.stepfile.specs.Files.{readings_of}
@@ -28,11 +29,11 @@ within_32_bits :
     → (before s rs j).clock ≤ 4294967295
 within_32_bits s rs h c zero = c
 within_32_bits s [] h c (suc j) = c
-within_32_bits s (Means x ∷ rs) h c (suc j) =
+within_32_bits s (Ok x ∷ rs) h c (suc j) =
     let same = sym (projects_step s x) in
-    within_32_bits (led s (Means x)) rs (subst (λ t. Sound t rs) same h.2) (subst (λ (t : Trace). t.clock ≤ 4294967295) same h.1) j
-within_32_bits s (WrongCode ∷ rs) h c (suc j) = absurd h
-within_32_bits s (WrongAmount ∷ rs) h c (suc j) = absurd h
+    within_32_bits (led s (Ok x)) rs (subst (λ t. Sound t rs) same h.2) (subst (λ (t : Trace). t.clock ≤ 4294967295) same h.1) j
+within_32_bits s (Err WrongCode ∷ rs) h c (suc j) = absurd h
+within_32_bits s (Err WrongAmount ∷ rs) h c (suc j) = absurd h
 
 -- ---- an entry's fields
 module _ (s : State) (rs : List Reading) (h : Sound (trace_of s) rs) (c : s.clock ≤ 4294967295) (n : length rs ≤ 65535) where

@@ -1,25 +1,24 @@
 -- Document 02, request 5, a second time, in statements on the entries alone: each request of the records has exactly one entry, in
 -- their order, and what an entry says of its shift. Nothing of Shifts.antt is used.
 -- Assumes nothing.
-use Rattle.std.specs.Prelude.{◌≡◌, ℕ, suc, ◌+◌, ◌<◌, ◌≤◌, ◌⊎◌, List, length, get_or, take, slice_index_or}
+use Rattle.std.specs.Prelude.{◌≡◌, ℕ, suc, ◌+◌, ◌<◌, ◌≤◌, ◌⊎◌, List, length, get_or, take, slice_index_or, Ok}
 use Rattle.promises.specs.Verdicts.{leads, at}
 use Rattle.shift.specs.declared.State.{State}
-use Rattle.shift.specs.declared.Reading.{Reading}
-use Rattle.shift.specs.declared.Reading.TheVariants.{Means}
+use Rattle.shift.specs.Readings.{Reading}
 use Rattle.shift.specs.declared.Step.TheVariants.{FromNeutral, GearToGear, ToNeutral, AskClutch}
 use Rattle.shiftlist.specs.declared.Shift.{Shift}
 
 -- a request, and its code
 abbrev pub RequestOf : Reading → ℕ → Type 0
 RequestOf r code =
-    ((r ≡ Means FromNeutral) × (code ≡ 1)) ⊎ (((r ≡ Means GearToGear) × (code ≡ 2)) ⊎ ((r ≡ Means ToNeutral) × (code ≡ 3)))
+    ((r ≡ Ok FromNeutral) × (code ≡ 1)) ⊎ (((r ≡ Ok GearToGear) × (code ≡ 2)) ⊎ ((r ≡ Ok ToNeutral) × (code ≡ 3)))
 
 -- an ask clutch lies among the records from a to b
 pub record Asked (rs : List Reading) (a b : ℕ) : Type 0 where
   pub index : ℕ
   pub from : a ≤ index
   pub to : index ≤ b
-  pub there : at rs index ≡ Means AskClutch
+  pub there : at rs index ≡ Ok AskClutch
 
 -- an entry of a list for the request j; `none` is what stands past the list's end
 pub record EntryOf (es : List Shift) (none : Shift) (j : ℕ) : Type 0 where

@@ -1,13 +1,13 @@
 -- Document 02, request 5: the shifts of records. A shift runs from its request to the record that enters 22 (done) or 23 (error), else
 -- to the last record (open).
 -- Assumes nothing.
-use Rattle.std.specs.Prelude.{ℕ, zero, suc, ◌-◌, Bool, true, false, cond, List, [], ◌∷◌, ◌==◌}
+use Rattle.std.specs.Prelude.{ℕ, zero, suc, ◌-◌, Bool, true, false, cond, List, [], ◌∷◌, ◌==◌, Ok, Err}
 use Rattle.phases.specs.Phases.{done, error}
 use Rattle.shift.specs.declared.State.{State}
 use Rattle.shift.specs.declared.Step.{Step}
 use Rattle.shift.specs.declared.Step.TheVariants.{FromNeutral, GearToGear, ToNeutral, Deliver, DeviceGood, DeviceFailed, EngineWaits, Take, AskClutch, RaiseError, Finish, Tick, Reset}
-use Rattle.shift.specs.declared.Reading.{Reading}
-use Rattle.shift.specs.declared.Reading.TheVariants.{Means, WrongCode, WrongAmount}
+use Rattle.shift.specs.Readings.{Reading}
+use Rattle.shift.specs.declared.Misread.TheVariants.{WrongCode, WrongAmount}
 use Rattle.shift.specs.Answers.{led}
 use Rattle.shiftlist.specs.declared.Shift.{Shift}
 
@@ -45,14 +45,14 @@ asks_in Reset = false
 
 -- both of what was read of a record
 abbrev pub kind_of : Reading → ℕ
-kind_of (Means x) = kind_in x
-kind_of WrongCode = 0
-kind_of WrongAmount = 0
+kind_of (Ok x) = kind_in x
+kind_of (Err WrongCode) = 0
+kind_of (Err WrongAmount) = 0
 
 abbrev pub asks : Reading → Bool
-asks (Means x) = asks_in x
-asks WrongCode = false
-asks WrongAmount = false
+asks (Ok x) = asks_in x
+asks (Err WrongCode) = false
+asks (Err WrongAmount) = false
 
 -- how a shift stands in a phase: 1 done, 2 error, 0 open
 abbrev pub end_of : ℕ → ℕ

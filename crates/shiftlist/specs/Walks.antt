@@ -1,7 +1,7 @@
 -- The shifts of records in one walk over their bytes, with one shift in hand: an entry is made where its shift ends, and at the end. For
 -- functions inside; `laid_is_the_list` of proofs/BuildLaws.antt ties it to Shifts.antt, where the records are accepted.
 -- Assumes nothing.
-use Rattle.std.specs.Prelude.{ℕ, zero, suc, ◌+◌, ◌-◌, ◌*◌, ◌/◌, ◌%◌, Bool, true, false, cond, ◌&&◌, List, [], ◌∷◌, length, ◌==◌, nat_le}
+use Rattle.std.specs.Prelude.{ℕ, zero, suc, ◌+◌, ◌-◌, ◌*◌, ◌/◌, ◌%◌, Bool, true, false, cond, ◌&&◌, List, [], ◌∷◌, length, map, get_or, Option, Some, None, ◌==◌, nat_le}
 use Rattle.std.proofs.lemmas.List.Edits.{sets}
 use Rattle.numbers.specs.Bytes.{bytes_of}
 use Rattle.phases.specs.Phases.{next_of, unfinished}
@@ -23,12 +23,13 @@ coded code middle low high = record { code = code; amount = low + 256 * high }
 abbrev pub coded_in : List ℕ → List Coded
 coded_in = every_four coded
 
+-- the same of records that stand apart, four bytes each
+abbrev pub coded_all : List (List ℕ) → List Coded
+coded_all = map (λ r. coded (get_or r 0 0) (get_or r 1 0) (get_or r 2 0) (get_or r 3 0))
+
 -- codes 1 to 3 are requests
 abbrev pub kind_by : ℕ → ℕ
 kind_by code = cond (nat_le code 3) code 0
-
-abbrev pub is_request : ℕ → Bool
-is_request code = nat_le 1 code && nat_le code 3
 
 -- codes 4 to 7, of the steps that change the stage alone
 abbrev pub is_still : ℕ → Bool
@@ -106,10 +107,14 @@ laid_by w i (c ∷ cs) =
     let w' = walked_by w i c.code c.amount in
     with (closes w.phase w'.phase) (in_hand w') (laid_by w' (suc i) cs)
 
--- the last record before the record with this index among those that are walked, and before the first this one
-abbrev pub last_before : ℕ → ℕ → ℕ → ℕ
-last_before last from zero = last
-last_before last from (suc i) = from + i
+-- the same of records that stand apart
+abbrev pub laid_apart : Walk → ℕ → List (List ℕ) → List Shift
+laid_apart w i rs = laid_by w i (coded_all rs)
+
+-- what a size answers: none for 0
+abbrev pub unless_0 : ℕ → Option ℕ
+unless_0 zero = None
+unless_0 (suc n) = Some (suc n)
 
 -- ---- laying them into a list, from a place on
 module _ (l : List ℕ) (from : ℕ) (w : Walk) (i : ℕ) (bytes : List ℕ) where

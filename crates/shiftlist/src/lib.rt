@@ -2,7 +2,8 @@
 #![tactic(auto)]
 
 ghost use Rattle.std.specs.Prelude.{◌≡◌, length};
-ghost use Rattle.shiftlist.specs.Lists.{listed_long, refused_by, built_of, buffer_after, shift_at, no_shift, fetch_of};
+ghost use Rattle.shiftlist.specs.Lists.{listed_long, refused_by, built_of, buffer_after, shift_at, fetch_of};
+ghost use Rattle.shiftlist.specs.Fetching.{handed};
 
 use numbers::{byte_at, u16_at, u32_at};
 use walk::Walk;
@@ -11,9 +12,9 @@ pub mod lay;
 pub mod walk;
 
 // One shift: its first and last record, its kind (the request's code), 1 where a clutch was asked for, how it ended (0 open, 1 done,
-// 2 error), the clock at its request and its age at the last record.
+// 2 error), the clock at its request and its age at the last record. munasirel_fetch hands it to C, with document 02's numbers.
 #[repr(C)]
-#[derive(Clone, Copy)]
+#[derive(Clone, Copy, Default)]
 pub struct Shift {
     pub first: u16,
     pub last: u16,
@@ -24,7 +25,8 @@ pub struct Shift {
     pub age: u32,
 }
 
-// The list's length with number 0; or the number that refuses it, with the judge's own its rule, index and excess.
+// The list's length with number 0; or the number that refuses it, with the judge's own its rule, index and excess. munasirel_list and
+// munasirel_extend hand it to C, with document 01's numbers.
 #[repr(C)]
 #[derive(Clone, Copy)]
 pub struct Listed {
@@ -49,7 +51,7 @@ impl Listed {
         }
     }
 
-    // None.
+    // No list: the number that refuses it, and with the judge's own its rule, index and excess.
     pub fn refused(number: u8, rule: u8, index: usize, excess: u64) -> Listed
         ensures { result ≡ refused_by number rule index excess }
     {
@@ -63,7 +65,7 @@ impl Listed {
     }
 }
 
-// Number 0 and the entry; or the number that refuses it, and an entry of zeros.
+// Number 0 and the entry; or the number that refuses it, and an entry of zeros. munasirel_fetch hands it to C.
 #[repr(C)]
 #[derive(Clone, Copy)]
 pub struct Fetched {
@@ -76,25 +78,17 @@ pub fn build(file: &[u8], out: &mut [u8]) -> Listed
     ensures value { result ≡ built_of file.now (length out.old) }
     ensures out_after { out.new ≡ buffer_after file.now out.old }
 {
+    // A verdict has its number for C: munasirel_verdict hands it over.
     let verdict = verdict::judge(file);
     let number = verdict.number;
     if number != 0 {
         return Listed::refused(number, verdict.rule, verdict.index, verdict.excess);
     }
     // No shift in hand, at the start.
-    let walk = Walk {
-        clock: 0,
-        phase: 0,
-        first: 0,
-        last: 0,
-        kind: 0,
-        route: 0,
-        request_time: 0,
-    };
-    let size = lay::lay(out, 8, walk, 0, stepfile::from_offset(file));
-    if size == 0 {
+    let walk = Walk::default();
+    let Some(size) = lay::lay(out, 8, walk, 0, stepfile::from_offset(file)) else {
         return Listed::refused(15, 0, 0, 0);
-    }
+    };
     Listed::long(size)
 }
 
@@ -102,43 +96,42 @@ pub fn build(file: &[u8], out: &mut [u8]) -> Listed
 pub fn fetch(list: &[u8], number: usize) -> Fetched
     ensures { result ≡ fetch_of list.now number }
 {
+    match entry(list, number) {
+        Ok(shift) => Fetched { number: 0, shift },
+        Err(why) => Fetched {
+            number: why as u8,
+            shift: Shift::default(),
+        },
+    }
+}
+
+// Why a list has no entry of a number. The numbers are document 02's, of what munasirel_fetch hands to C.
+#[derive(Clone, Copy, Debug, PartialEq, Eq)]
+enum NoEntry {
+    Short = 1,
+    Offset = 2,
+    Length = 3,
+    Count = 14,
+}
+
+fn entry(list: &[u8], number: usize) -> Result<Shift, NoEntry>
+    ensures { handed result ≡ fetch_of list.now number }
+{
     let len = list.len();
     if len < 8 {
-        return missing(1);
+        return Err(NoEntry::Short);
     }
     if u32_at(list, 4) != 8 {
-        return missing(2);
+        return Err(NoEntry::Offset);
     }
     let count = u32_at(list, 0) as usize;
     if len != 8 + 16 * count {
-        return missing(3);
+        return Err(NoEntry::Length);
     }
     if count <= number {
-        return missing(14);
+        return Err(NoEntry::Count);
     }
-    let shift = shift_at(list, 8 + 16 * number);
-    Fetched { number: 0, shift }
-}
-
-fn missing(number: u8) -> Fetched
-    ensures { result ≡ record { number = number; shift = no_shift } }
-{
-    let shift = no_shift();
-    Fetched { number, shift }
-}
-
-fn no_shift() -> Shift
-    ensures { result ≡ no_shift }
-{
-    Shift {
-        first: 0,
-        last: 0,
-        kind: 0,
-        route: 0,
-        end: 0,
-        request_time: 0,
-        age: 0,
-    }
+    Ok(shift_at(list, 8 + 16 * number))
 }
 
 // The entry at a place; behind the end zeros are read.
@@ -146,22 +139,15 @@ pub fn shift_at(list: &[u8], at: usize) -> Shift
     ensures { result ≡ shift_at list.now at }
 {
     if list.len() <= at {
-        return no_shift();
+        return Shift::default();
     }
-    let first = u16_at(list, at);
-    let last = u16_at(list, at + 2);
-    let kind = byte_at(list, at + 4);
-    let route = byte_at(list, at + 5);
-    let end = byte_at(list, at + 6);
-    let request_time = u32_at(list, at + 8);
-    let age = u32_at(list, at + 12);
     Shift {
-        first,
-        last,
-        kind,
-        route,
-        end,
-        request_time,
-        age,
+        first: u16_at(list, at),
+        last: u16_at(list, at + 2),
+        kind: byte_at(list, at + 4),
+        route: byte_at(list, at + 5),
+        end: byte_at(list, at + 6),
+        request_time: u32_at(list, at + 8),
+        age: u32_at(list, at + 12),
     }
 }

@@ -15,7 +15,7 @@ use Rattle.checks.proofs.Tests.{passes}
 use Rattle.limits.specs.declared.Table.{Table}
 use Rattle.phases.specs.Phases.{unfinished}
 use Rattle.shift.specs.declared.State.{State}
-use Rattle.shift.specs.declared.Reading.{Reading}
+use Rattle.shift.specs.Readings.{Reading}
 use Rattle.shift.specs.Answers.{led}
 use Rattle.stepfile.specs.Records.{records_in}
 use Rattle.verdict.specs.declared.Verdict.{Verdict}

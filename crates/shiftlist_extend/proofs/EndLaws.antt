@@ -12,7 +12,7 @@ use borrow.Author.Tests.{eq-eqb, ne_eqb, lt-ltb}
 use Rattle.checks.proofs.Tests.{passes}
 use Rattle.phases.specs.Phases.{unfinished}
 use Rattle.shift.specs.declared.State.{State}
-use Rattle.shift.specs.declared.Reading.{Reading}
+use Rattle.shift.specs.Readings.{Reading}
 use Rattle.shift.specs.States.{start}
 use Rattle.stepfile.specs.Files.{readings_of}
 use Rattle.trace.specs.Traces.{Trace, trace_of}

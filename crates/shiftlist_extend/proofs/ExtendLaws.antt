@@ -18,7 +18,7 @@ use Rattle.phases.specs.Phases.{unfinished}
 use Rattle.phases.proofs.PhaseLaws.{unfinished_in}
 use Rattle.promises.proofs.Promises.{accepted_up_to_the_first_forbidden_step}
 use Rattle.shift.specs.declared.State.{State}
-use Rattle.shift.specs.declared.Reading.{Reading}
+use Rattle.shift.specs.Readings.{Reading}
 use Rattle.shift.specs.Runs.{Outcome, run}
 use Rattle.stepfile.specs.Records.{records_in}
 use Rattle.stepfile.specs.Writing.{entries_for, most_for}
@@ -34,8 +34,10 @@ use Rattle.shiftlist.specs.Walks.{coded_in, holding, trace_in, in_hand, with, la
 use Rattle.shiftlist.proofs.WalkLaws.{whole_on, shifts_on, whole_same, shifts_same, makes}
 use Rattle.shiftlist.proofs.CodeLaws.{laid_as_listed}
 use Rattle.shiftlist.proofs.LaidLaws as kernel
-use Rattle.shiftlist_extend.specs.Extending.{laid_on, grounds_by, grounds, last_entry, laid, from, size, after_run, after_grounds, extended_of, list_after}
-use Rattle.shiftlist_extend.specs.Resuming.{place_of, resumed_on}
+use Rattle.shiftlist_extend.specs.Extending.{laid_on, grounds, last_entry, laid, from, size, after_run, after_grounds, extended_of, list_after}
+use Rattle.shiftlist_extend.specs.declared.Ground.{Ground}
+use Rattle.shiftlist_extend.specs.declared.Ground.TheVariants.{Short, Header, Length, Broken, Unfit, NoRoom}
+use Rattle.shiftlist_extend.specs.Resuming.{number_of, place_of, resumed_on}
 use Rattle.shiftlist_extend.proofs.GroundLaws.{Grounded, grounded, its_end, its_age, in_place}
 
 -- ---- the walk that is resumed
@@ -106,6 +108,15 @@ index_small t s l n =
     let k = records_less l in
     omega (arith, h, k)
 
+-- ---- a ground has a number
+pub some_number : (ground : Ground) → ¬ (number_of ground ≡ 0)
+some_number Short e = omega arith
+some_number Header e = omega arith
+some_number Length e = omega arith
+some_number (Broken rule) e = omega arith
+some_number Unfit e = omega arith
+some_number NoRoom e = omega arith
+
 -- ---- the answer, and the buffer after it
 module _ (l : List ℕ) (held : ℕ) (s : State) (count : ℕ) (t : Table) (bytes : List ℕ) where
   abbrev Leaves : Listed → List ℕ → Type 0
@@ -122,16 +133,6 @@ module _ (l : List ℕ) (held : ℕ) (s : State) (count : ℕ) (t : Table) (byte
   kept r m e =
       let other = ne_eqb (extended_of l held s count t bytes).number 0 (λ z. m (ap (λ (q : Listed). q.number) e ∙ z)) in
       (e, ap (λ b. cond b stored l) (sym other))
-
-  -- the grounds by the rule that was found broken, and the record maximum that was found
-  abbrev pub ground_for : ℕ → ℕ → ℕ
-  ground_for most rule =
-      first (grounds_by (length l) held (u32_at l 4) (u32_at l 0) (last_entry l held s count t bytes) s count (length bytes / 4) most rule)
-
-  pub by_rule :
-      (rule most k : ℕ) → rule ≡ broken_rule t → most ≡ most_for t → k ≡ ground_for most rule
-      → k ≡ first (grounds l held s count t bytes)
-  by_rule rule most k e m h = h ∙ ap (ground_for most) e ∙ ap (λ n. ground_for n (broken_rule t)) m
 
   pub at_ground : (k : ℕ) → k ≡ first (grounds l held s count t bytes) → ¬ (k ≡ 0) → Leaves (refused_by k (cond (eqb k 4) (broken_rule t) 0) 0 0) l
   at_ground k e m =

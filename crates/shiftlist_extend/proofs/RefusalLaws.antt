@@ -1,5 +1,6 @@
 -- Laws on the grounds that refuse extending and on the new records, against the words of specs/Refusals.antt, and on what stores keep.
 -- Assumes nothing.
+use Rattle.std.proofs.Common.{Some}
 use mathlib.Core.Path.{◌≡◌, refl, sym, ap, subst, ◌∙◌}
 use mathlib.Core.Bool.{Bool, true, false, not, ◌&&◌, ◌||◌}
 use mathlib.Core.Logic.{inl, inr, ⊎_elim}
@@ -26,11 +27,10 @@ use Rattle.promises.proofs.Promises.{accepted_up_to_the_first_forbidden_step}
 use Rattle.promises.proofs.OneStep.{refused_in_the_document's_words}
 use Rattle.promises.proofs.ExcessLaws.{how_far}
 use Rattle.shift.specs.declared.State.{State}
-use Rattle.shift.specs.declared.Reading.{Reading}
+use Rattle.shift.specs.Readings.{Reading}
 use Rattle.shift.specs.Answers.{reading, guard, excess}
 use Rattle.shift.specs.Runs.{Outcome, run}
 use Rattle.shift.proofs.Refusals.{reads}
-use Rattle.stepfile.specs.declared.write.Wish.TheVariants.{Given}
 use Rattle.stepfile.specs.Records.{records_in}
 use Rattle.stepfile.specs.Refusals.{bits16}
 use Rattle.stepfile.proofs.RecordLaws.{record_in}
@@ -147,8 +147,8 @@ module _ (l : List ℕ) (held : ℕ) (s : State) (count : ℕ) where
               omega (arith, tests),
               (
                 (
-                  λ x. too_many (Given t) (count + length bytes / 4) (omega (arith, tests)),
-                  (λ x. not_too_many (Given t) (count + length bytes / 4) (omega (arith, tests)), refl),
+                  λ x. too_many (Some t) (count + length bytes / 4) (omega (arith, tests)),
+                  (λ x. not_too_many (Some t) (count + length bytes / 4) (omega (arith, tests)), refl),
                 ),
                 (
                   omega (arith, tests),

@@ -18,7 +18,7 @@ use Rattle.limits.specs.Rules.{broken_rule}
 use Rattle.numbers.specs.Bytes.{u32_at, bytes_of}
 use Rattle.phases.specs.Phases.{unfinished}
 use Rattle.shift.specs.declared.State.{State}
-use Rattle.shift.specs.declared.Reading.{Reading}
+use Rattle.shift.specs.Readings.{Reading}
 use Rattle.shift.specs.Runs.{Outcome, run}
 use Rattle.stepfile.specs.Records.{records_in}
 use Rattle.stepfile.specs.Writing.{most_for}
@@ -45,7 +45,7 @@ not_4 true x e f = omega arith
 not_4 false x e f = omega arith
 
 module _ (l : List ℕ) (held : ℕ) (s : State) (count : ℕ) (t : Table) (bytes : List ℕ) where
-  -- the ground, the records, their run, the size, the answer and the list after it
+  -- the ground, the records, their run, the size and the answer
   abbrev k : ℕ
   k = first (grounds l held s count t bytes)
 
@@ -60,9 +60,6 @@ module _ (l : List ℕ) (held : ℕ) (s : State) (count : ℕ) (t : Table) (byte
 
   abbrev r : Listed
   r = extended_of l held s count t bytes
-
-  abbrev after : List ℕ
-  after = list_after l held s count t bytes
 
   -- ---- the size in words
   abbrev longer : ℕ

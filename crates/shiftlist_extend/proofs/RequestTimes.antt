@@ -8,6 +8,7 @@ use native.Mathlib.Omega.{arith}
 use lib.Dec.{T, eqb}
 use lib.ListN.{length}
 use borrow.Author.Tests.{ne_eqb}
+use Rattle.std.specs.Prelude.{Ok, Err}
 use Rattle.checks.proofs.Tests.{passes}
 use Rattle.phases.specs.Phases.{next_of, clutch_of, unfinished}
 use Rattle.phases.proofs.PhaseLaws.{unfinished_in}
@@ -15,8 +16,8 @@ use Rattle.promises.specs.Verdicts.{leads}
 use Rattle.shift.specs.declared.State.{State}
 use Rattle.shift.specs.declared.Step.{Step}
 use Rattle.shift.specs.declared.Step.TheVariants.{FromNeutral, GearToGear, ToNeutral, Deliver, DeviceGood, DeviceFailed, EngineWaits, Take, AskClutch, RaiseError, Finish, Tick, Reset}
-use Rattle.shift.specs.declared.Reading.{Reading}
-use Rattle.shift.specs.declared.Reading.TheVariants.{Means, WrongCode, WrongAmount}
+use Rattle.shift.specs.Readings.{Reading}
+use Rattle.shift.specs.declared.Misread.TheVariants.{WrongCode, WrongAmount}
 use Rattle.shift.specs.Answers.{led}
 use Rattle.trace.specs.Traces.{Trace, trace_of, stepped, after}
 use Rattle.trace.proofs.TraceLaws.{projects_step, allowed_in, Sound}
@@ -38,8 +39,8 @@ kept : (q time : ℕ) → unfinished q ≡ true → cond (eqb q 0) 0 time ≡ ti
 kept q time u = let i = unfinished_in q (passes (unfinished q) u) in rw (ne_eqb q 0 (λ e. omega arith))
 
 step_time :
-    (s : State) (x : Step) → unfinished (led s (Means x)).phase ≡ true
-    → (led s (Means x)).request_time ≡ time_by (kind_in x) s.clock s.request_time
+    (s : State) (x : Step) → unfinished (led s (Ok x)).phase ≡ true
+    → (led s (Ok x)).request_time ≡ time_by (kind_in x) s.clock s.request_time
 step_time s FromNeutral u = refl
 step_time s GearToGear u = refl
 step_time s ToNeutral u = refl
@@ -75,7 +76,7 @@ same_time :
 same_time zero clock clock' time time' e f = f refl
 same_time (suc k) clock clock' time time' e f = e
 
-keeps_step : (s : State) (w : Walk) (i : ℕ) (x : Step) → T (allowed_in s.phase x) → Keeps s w → Keeps (led s (Means x)) (walked w i (Means x))
+keeps_step : (s : State) (w : Walk) (i : ℕ) (x : Step) → T (allowed_in s.phase x) → Keeps s w → Keeps (led s (Ok x)) (walked w i (Ok x))
 keeps_step s w i x h k = record {
   trace = same_trace (kind_in x) w i (asks_in x) (stepped (trace_in w) x) ∙ ap (λ t. stepped t x) k.trace ∙ sym (projects_step s x);
   time =
@@ -89,11 +90,11 @@ keeps_step s w i x h k = record {
 
 pub keeps_to_the_end : (s : State) (w : Walk) (i : ℕ) (xs : List Reading) → Sound (trace_of s) xs → Keeps s w → Keeps (leads s xs) (at_end w i xs)
 keeps_to_the_end s w i [] h k = k
-keeps_to_the_end s w i (Means x ∷ xs) h k =
-    keeps_to_the_end (led s (Means x)) (walked w i (Means x)) (suc i) xs (subst (λ t. Sound t xs) (sym (projects_step s x)) h.2)
+keeps_to_the_end s w i (Ok x ∷ xs) h k =
+    keeps_to_the_end (led s (Ok x)) (walked w i (Ok x)) (suc i) xs (subst (λ t. Sound t xs) (sym (projects_step s x)) h.2)
     (keeps_step s w i x h.0 k)
-keeps_to_the_end s w i (WrongCode ∷ xs) h k = absurd h
-keeps_to_the_end s w i (WrongAmount ∷ xs) h k = absurd h
+keeps_to_the_end s w i (Err WrongCode ∷ xs) h k = absurd h
+keeps_to_the_end s w i (Err WrongAmount ∷ xs) h k = absurd h
 
 -- ---- the last record that it went over
 further_last : (k : ℕ) (w : Walk) (i : ℕ) (b : Bool) (t : Trace) → (further k w i b t).last ≡ i

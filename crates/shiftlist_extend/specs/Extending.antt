@@ -9,7 +9,7 @@ use Rattle.limits.specs.Rules.{broken_rule}
 use Rattle.numbers.specs.Bytes.{u32_at, bytes_of}
 use Rattle.phases.specs.Phases.{unfinished}
 use Rattle.shift.specs.declared.State.{State}
-use Rattle.shift.specs.declared.Reading.{Reading}
+use Rattle.shift.specs.Readings.{Reading}
 use Rattle.shift.specs.Runs.{Outcome, run}
 use Rattle.stepfile.specs.Records.{records_in}
 use Rattle.stepfile.specs.Writing.{most_for}

@@ -1,7 +1,7 @@
 -- Document 02, request 5, with request 6's record maximum, a second time: when extending a list by appended records is refused, as
 -- statements, and what a call leaves. It shares no definition with Extending.antt, nor with Shifts.antt and Lists.antt of `shiftlist`.
 -- Assumes nothing.
-use Rattle.std.specs.Prelude.{◌≡◌, ◌⊎◌, List, [], ◌∷◌, ℕ, ◌+◌, ◌*◌, ◌-◌, ◌/◌, ◌≤◌, ◌<◌, length, get_or}
+use Rattle.std.specs.Prelude.{◌≡◌, ◌⊎◌, List, [], ◌∷◌, ℕ, ◌+◌, ◌*◌, ◌-◌, ◌/◌, ◌≤◌, ◌<◌, length, get_or, Some, Err}
 use Rattle.checks.specs.Conditions.{Condition, ◌gives◌, ◌else◌, FirstOf}
 use Rattle.limits.specs.declared.Table.{Table}
 use Rattle.limits.specs.Refusals.{Admitted}
@@ -9,11 +9,10 @@ use Rattle.promises.specs.Refusals.{record_refusals}
 use Rattle.promises.specs.HowFar.{HowFar}
 use Rattle.promises.specs.Verdicts.{Exact}
 use Rattle.shift.specs.declared.State.{State}
-use Rattle.shift.specs.declared.Reading.{Reading}
-use Rattle.shift.specs.declared.Reading.TheVariants.{WrongCode}
+use Rattle.shift.specs.Readings.{Reading}
+use Rattle.shift.specs.declared.Misread.TheVariants.{WrongCode}
 use Rattle.shift.specs.Refusals.{Reads}
 use Rattle.shift.specs.Runs.{Outcome}
-use Rattle.stepfile.specs.declared.write.Wish.TheVariants.{Given}
 use Rattle.stepfile.specs.Refusals.{bits16, bits32, RuleFor, TooMany, WrittenWith}
 use Rattle.shiftlist.specs.declared.Shift.{Shift}
 use Rattle.shiftlist.specs.declared.Listed.{Listed}
@@ -51,7 +50,7 @@ extend_refusals l held s count t bytes =
     ∷ (held < 8 gives 1)
     ∷ ((bits32 l 4 ≡ 8) else 2)
     ∷ ((held ≡ 8 + 16 * bits32 l 0) else 3)
-    ∷ (((k : ℕ) × WrittenWith (Given t) k × TooMany k (count + length bytes / 4)) gives 2)
+    ∷ (((k : ℕ) × WrittenWith (Some t) k × TooMany k (count + length bytes / 4)) gives 2)
     ∷ (count < bits32 l 0 gives 2)
     ∷ (Admitted t else 4)
     ∷ (Fit l held s count else 14)
@@ -64,7 +63,7 @@ pub record BytesHold (bytes : List ℕ) (records : List Reading) : Type 0 where
   pub count : length records ≡ length bytes / 4
   pub each :
       (i : ℕ) → i < length records
-      → Reads (get_or bytes (4 * i) 0) (get_or bytes (4 * i + 1) 0) (bits16 bytes (4 * i + 2)) (get_or records i WrongCode)
+      → Reads (get_or bytes (4 * i) 0) (get_or bytes (4 * i + 1) 0) (bits16 bytes (4 * i + 2)) (get_or records i (Err WrongCode))
 
 -- Judged from the state under the table they are accepted up to exactly the first that is no step or that the rules forbid; it is
 -- refused by the first number whose condition holds there, 5 to 13, and so far over.

@@ -2,9 +2,9 @@
 #![tactic(auto)]
 
 use columns::Page;
-use output::Sent;
+use output::Unwritten;
 use shiftlist::Shift;
-use std::io::{Stderr, Stdout};
+use std::io::{Stderr, Stdout, Write};
 use std::process::ExitCode;
 
 // The widths of the columns, in which every entry fits.
@@ -25,123 +25,112 @@ const FIRST: u8 = 12;
 const LAST: u8 = 11;
 
 fn main(rt: HostRuntime) -> ExitCode {
-    // One byte longer than the longest list.
+    // One byte longer than the longest list. Nothing is allocated.
     let mut list = [0u8; 261961];
-    let input = input::read_all(&mut rt.stdin(), &mut list);
-    if input.failed {
-        return say(rt.stderr(), b"standard input could not be read").status();
-    }
-    let length = input.length;
-    show(rt.stdout(), rt.stderr(), &list[..length]).status()
-}
-
-// A sentence on standard error, and how writing it ended.
-fn say(err: Stderr, words: &[u8]) -> Sent {
-    let _ = err.write_all(b"shifts: ");
-    let _ = err.write_all(words);
-    Sent::of(err.write_all(b"\n"))
+    let written = match input::read_all(&mut rt.stdin(), &mut list) {
+        Ok(count) => show(rt.stdout(), rt.stderr(), &list[..count]),
+        Err(_) => output::write(
+            &mut rt.stderr(),
+            b"shifts: standard input could not be read\n",
+        ),
+    };
+    output::status(written)
 }
 
 // The table, or why there is none; 14 is a list without a first shift. It answers how the last writing ended.
-fn show(out: Stdout, err: Stderr, list: &[u8]) -> Sent {
-    let fetched = shiftlist::fetch(list, 0);
-    let number = fetched.number;
-    match number {
-        0 => tell(err, table(out, list)),
-        1 => say(
-            err,
-            b"the list is refused with 1: it has fewer than 8 bytes",
-        ),
-        2 => say(
-            err,
-            b"the list is refused with 2: the offset of its first entry is not 8",
-        ),
-        3 => say(
-            err,
-            b"the list is refused with 3: its length is not 8 bytes and 16 for each shift that it counts",
-        ),
-        _ => tell(err, Sent::of(out.write_all(b"no shifts\n"))),
-    }
+fn show(mut out: Stdout, mut err: Stderr, list: &[u8]) -> Result<(), Unwritten> {
+    // The number is document 02's: munasirel_fetch hands it to C.
+    let written = match shiftlist::fetch(list, 0).number {
+        0 => table(out, list),
+        number @ 1..=3 => return output::write(&mut err, refused(number)),
+        _ => output::write(&mut out, b"no shifts\n"),
+    };
+    output::tell(
+        &mut err,
+        written,
+        b"shifts: the table could not be written\n",
+    )
 }
 
-// Where nobody reads on there is nobody to tell.
-fn tell(err: Stderr, sent: Sent) -> Sent {
-    match sent {
-        Sent::Part => say(err, b"the table could not be written"),
-        _ => sent,
+// Why a list is refused with 1 to 3.
+fn refused(number: u8) -> &'static [u8] {
+    match number {
+        1 => b"shifts: the list is refused with 1: it has fewer than 8 bytes\n",
+        2 => b"shifts: the list is refused with 2: the offset of its first entry is not 8\n",
+        _ =>
+            b"shifts: the list is refused with 3: its length is not 8 bytes and 16 for each shift that it counts\n",
     }
 }
 
 // Prints the table of a list, shift by shift, and answers how writing it ended.
-fn table(out: Stdout, list: &[u8]) -> Sent {
-    let mut text = [0u8; 4096];
-    let mut page = head(&mut text, Page::blank(out));
-    let mut number: usize = 0;
+fn table(out: Stdout, list: &[u8]) -> Result<(), Unwritten> {
+    let mut page = Page::blank(out);
+    head(&mut page);
     // As many as the longest list has.
-    while number < 16372 {
+    for number in 0..16372 {
         let fetched = shiftlist::fetch(list, number);
         if fetched.number != 0 {
             break;
         }
-        page = row(&mut text, page, number, fetched.shift);
-        number += 1;
+        row(&mut page, number, fetched.shift);
     }
-    page.close(&mut text)
+    page.close()
 }
 
-fn head(text: &mut [u8; 4096], page: Page) -> Page {
-    let page = page.right(text, b"shift", NUMBER);
-    let page = page.left(text, b"kind", KIND);
-    let page = page.left(text, b"route", ROUTE);
-    let page = page.left(text, b"end", END);
-    let page = page.right(text, b"request time, ms", REQUEST_TIME);
-    let page = page.right(text, b"age, ms", AGE);
-    let page = page.right(text, b"first record", FIRST);
-    let page = page.right(text, b"last record", LAST);
-    page.end(text)
+fn head<W: Write>(page: &mut Page<W>) {
+    page.right(b"shift", NUMBER);
+    page.left(b"kind", KIND);
+    page.left(b"route", ROUTE);
+    page.left(b"end", END);
+    page.right(b"request time, ms", REQUEST_TIME);
+    page.right(b"age, ms", AGE);
+    page.right(b"first record", FIRST);
+    page.right(b"last record", LAST);
+    page.end();
 }
 
-fn row(text: &mut [u8; 4096], page: Page, number: usize, shift: Shift) -> Page {
-    let page = page.number(text, number as u64, NUMBER);
-    let page = kind(text, page, shift.kind);
-    let page = route(text, page, shift.route);
-    let page = end(text, page, shift.end);
-    let page = page.number(text, shift.request_time as u64, REQUEST_TIME);
-    let page = page.number(text, shift.age as u64, AGE);
-    let page = page.number(text, shift.first as u64, FIRST);
-    let page = page.number(text, shift.last as u64, LAST);
-    page.end(text)
+fn row<W: Write>(page: &mut Page<W>, number: usize, shift: Shift) {
+    page.number(number, NUMBER);
+    coded(page, kind(shift.kind), shift.kind, KIND);
+    coded(page, route(shift.route), shift.route, ROUTE);
+    coded(page, end(shift.end), shift.end, END);
+    page.number(shift.request_time, REQUEST_TIME);
+    page.number(shift.age, AGE);
+    page.number(shift.first, FIRST);
+    page.number(shift.last, LAST);
+    page.end();
 }
 
-fn kind(text: &mut [u8; 4096], page: Page, kind: u8) -> Page {
+// The word for a number, or the number in decimal where there is none.
+fn coded<W: Write>(page: &mut Page<W>, word: Option<&[u8]>, number: u8, width: u8) {
+    match word {
+        Some(word) => page.left(word, width),
+        None => page.left(itoa::Buffer::new().format(number).as_bytes(), width),
+    }
+}
+
+fn kind(kind: u8) -> Option<&'static [u8]> {
     match kind {
-        1 => page.left(text, b"from neutral", KIND),
-        2 => page.left(text, b"gear to gear", KIND),
-        3 => page.left(text, b"to neutral", KIND),
-        _ => foreign(text, page, kind, KIND),
+        1 => Some(b"from neutral"),
+        2 => Some(b"gear to gear"),
+        3 => Some(b"to neutral"),
+        _ => None,
     }
 }
 
-fn route(text: &mut [u8; 4096], page: Page, route: u8) -> Page {
+fn route(route: u8) -> Option<&'static [u8]> {
     match route {
-        0 => page.left(text, b"no clutch", ROUTE),
-        1 => page.left(text, b"clutch", ROUTE),
-        _ => foreign(text, page, route, ROUTE),
+        0 => Some(b"no clutch"),
+        1 => Some(b"clutch"),
+        _ => None,
     }
 }
 
-fn end(text: &mut [u8; 4096], page: Page, end: u8) -> Page {
+fn end(end: u8) -> Option<&'static [u8]> {
     match end {
-        0 => page.left(text, b"open", END),
-        1 => page.left(text, b"done", END),
-        2 => page.left(text, b"error", END),
-        _ => foreign(text, page, end, END),
+        0 => Some(b"open"),
+        1 => Some(b"done"),
+        2 => Some(b"error"),
+        _ => None,
     }
-}
-
-// What no word stands for, in decimal.
-fn foreign(text: &mut [u8; 4096], page: Page, n: u8, width: u8) -> Page {
-    let mut digits = [0u8; 20];
-    let count = io::decimal(n as u64, &mut digits);
-    page.left(text, &digits[..count], width)
 }

@@ -1,5 +1,6 @@
 -- Laws on the entries of a table: how many a file may have, how many a table is written with, and the record maximum by that.
 -- Assumes nothing.
+use Rattle.std.proofs.Common.{Option, Some, None}
 use mathlib.Core.Path.{◌≡◌, refl, sym, ap, subst, ◌∙◌}
 use mathlib.Core.Logic.{◌⊎◌, inl, inr, ⊎_elim}
 use mathlib.Core.Bool.{cond, not, ◌||◌}
@@ -14,8 +15,6 @@ use Rattle.limits.specs.declared.Table.{Table}
 use Rattle.limits.specs.Limits.{limits, entries, undelayed, table_of}
 use Rattle.limits.specs.Refusals.{NoDelays}
 use Rattle.limits.proofs.Refusals.{zeros}
-use Rattle.stepfile.specs.declared.write.Wish.{Wish}
-use Rattle.stepfile.specs.declared.write.Wish.TheVariants.{Given, NoTable}
 use Rattle.stepfile.specs.Files.{most_records}
 use Rattle.stepfile.specs.Writing.{wished, entries_for}
 use Rattle.stepfile.specs.Refusals.{TooMany, WrittenWith}
@@ -98,12 +97,12 @@ module _ (t : Table) where
   no_more_than_22 = at_most_22 (length (entries_for t)) (inr how_many)
 
 -- ---- of a wish
-pub written_with : (w : Wish) → WrittenWith w (length (entries_for (wished w)))
-written_with (Given t) =
+pub written_with : (w : Option Table) → WrittenWith w (length (entries_for (wished w)))
+written_with (Some t) =
     ⊎_elim (λ n. inl (n, ap length (in_eighteen t n))) (λ n. inr (n, ap length (in_twenty_two t n))) (delays t)
-written_with NoTable = refl
+written_with None = refl
 
-pub with_no_others : (w : Wish) (k : ℕ) → WrittenWith w k → k ≡ length (entries_for (wished w))
-with_no_others (Given t) k (inl h) = h.1 ∙ sym (ap length (in_eighteen t h.0))
-with_no_others (Given t) k (inr h) = h.1 ∙ sym (ap length (in_twenty_two t h.0))
-with_no_others NoTable k e = e
+pub with_no_others : (w : Option Table) (k : ℕ) → WrittenWith w k → k ≡ length (entries_for (wished w))
+with_no_others (Some t) k (inl h) = h.1 ∙ sym (ap length (in_eighteen t h.0))
+with_no_others (Some t) k (inr h) = h.1 ∙ sym (ap length (in_twenty_two t h.0))
+with_no_others None k e = e

@@ -6,7 +6,8 @@ use Prim.Native.Nat.{ℕ, ◌+◌, ◌*◌, ◌<◌}
 use native.Mathlib.Omega.{arith}
 use lib.ListN.{length, get_or, drop}
 use lib.Seq.{get_or-drop}
-use Rattle.shift.specs.declared.Reading.TheVariants.{WrongCode}
+use Rattle.std.specs.Prelude.{Err}
+use Rattle.shift.specs.declared.Misread.TheVariants.{WrongCode}
 use Rattle.shift.specs.Answers.{reading}
 use Rattle.shift.proofs.Refusals.{reads}
 use Rattle.stepfile.specs.Files.{table_in, refusal_of, record_bytes, readings_of}
@@ -20,7 +21,7 @@ module _ (f : List ℕ) (z : (refusal_of f).number ≡ 0) where
   -- the record at an index is read of the four bytes at its place
   pub read_there :
       (i : ℕ) → i < length (readings_of f)
-      → get_or (readings_of f) i WrongCode ≡ reading (get_or f (place f i) 0) (get_or f (place f i + 1) 0) (bits16 f (place f i + 2))
+      → get_or (readings_of f) i (Err WrongCode) ≡ reading (get_or f (place f i) 0) (get_or f (place f i + 1) 0) (bits16 f (place f i + 2))
   read_there i h =
       let good = good_file f z in
       let whole = good.whole in

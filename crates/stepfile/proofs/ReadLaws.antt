@@ -8,9 +8,10 @@ use Prim.Native.Nat.{ℕ, zero, suc, ◌+◌, ◌*◌, ◌/◌, ◌%◌, ◌<◌
 use native.Mathlib.Omega.{arith}
 use lib.Dec.{leb, eqb, eqb→eq}
 use lib.ListN.{length, get_or}
+use Rattle.std.specs.Prelude.{Ok, Err}
 use Rattle.checks.proofs.Tests.{passes, left}
-use Rattle.shift.specs.declared.Reading.{Reading}
-use Rattle.shift.specs.declared.Reading.TheVariants.{Means, WrongCode, WrongAmount}
+use Rattle.shift.specs.Readings.{Reading}
+use Rattle.shift.specs.declared.Misread.TheVariants.{WrongCode, WrongAmount}
 use Rattle.shift.specs.declared.Step.{Step}
 use Rattle.shift.specs.declared.Step.TheVariants.{FromNeutral, GearToGear, ToNeutral, Deliver, DeviceGood, DeviceFailed, EngineWaits, Take, AskClutch, RaiseError, Finish, Tick, Reset}
 use Rattle.shift.specs.Answers.{reading, plain, ticking, refusal}
@@ -21,18 +22,18 @@ use Rattle.stepfile.specs.RoundTrip.{Bytes, AllRead, codes_of, amounts_of}
 
 -- ---- a middle byte with which a code and an amount mean a step is 0
 module _ (b n : ℕ) (x : Step) where
-  no_step : WrongCode ≡ Means x → b ≡ 0
+  no_step : ◌≡◌ {A = Reading} (Err WrongCode) (Ok x) → b ≡ 0
   no_step e = let z : ◌≡◌ {A = ℕ} 0 1 = cc in absurd (omega arith)
 
-  chosen : (q : Bool) (s : Step) → cond q (Means s) WrongAmount ≡ Means x → q ≡ true
+  chosen : (q : Bool) (s : Step) → cond {A = Reading} q (Ok s) (Err WrongAmount) ≡ Ok x → q ≡ true
   chosen true s e = refl
   chosen false s e = let z : ◌≡◌ {A = ℕ} 0 1 = cc in absurd (omega arith)
 
-  tested : (q : Bool) (s : Step) → cond (eqb b 0 && q) (Means s) WrongAmount ≡ Means x → b ≡ 0
+  tested : (q : Bool) (s : Step) → cond {A = Reading} (eqb b 0 && q) (Ok s) (Err WrongAmount) ≡ Ok x → b ≡ 0
   tested q s e = eqb→eq b 0 (left (eqb b 0) q (passes (eqb b 0 && q) (chosen (eqb b 0 && q) s e)))
 
   -- by place in a list of readings that ends with the tick's and the reset's
-  middle_from : (ss : List Step) (c : ℕ) → get_or (map (λ s. plain s b n) ss ++ (ticking b n ∷ plain Reset b n ∷ [])) c WrongCode ≡ Means x → b ≡ 0
+  middle_from : (ss : List Step) (c : ℕ) → get_or (map (λ s. plain s b n) ss ++ (ticking b n ∷ plain Reset b n ∷ [])) c (Err WrongCode) ≡ Ok x → b ≡ 0
   middle_from [] zero e = tested (leb 1 n && leb n 65535) (Tick n) e
   middle_from [] (suc zero) e = tested (eqb n 0) Reset e
   middle_from [] (suc (suc c)) e = no_step e
@@ -54,26 +55,26 @@ module _ (b n : ℕ) (x : Step) where
       ∷ Finish
       ∷ []
 
-  middle : (c : ℕ) → reading c b n ≡ Means x → b ≡ 0
+  middle : (c : ℕ) → reading c b n ≡ Ok x → b ≡ 0
   middle zero e = no_step e
   middle (suc c) e = middle_from plains c e
 
 -- ---- of records that all mean steps the first one does, and so do the others
 module _ (a b c d : ℕ) (rs : List Reading) where
   later : (r : Reading) → AllRead (r ∷ rs) → AllRead rs
-  later (Means x) h = h
-  later WrongCode h = absurd h
-  later WrongAmount h = absurd h
+  later (Ok x) h = h
+  later (Err WrongCode) h = absurd h
+  later (Err WrongAmount) h = absurd h
 
   its_middle : (r : Reading) → record_of a b c d ≡ r → AllRead (r ∷ rs) → b ≡ 0
-  its_middle (Means x) e h = middle b (c + 256 * d) x a e
-  its_middle WrongCode e h = absurd h
-  its_middle WrongAmount e h = absurd h
+  its_middle (Ok x) e h = middle b (c + 256 * d) x a e
+  its_middle (Err WrongCode) e h = absurd h
+  its_middle (Err WrongAmount) e h = absurd h
 
   its_refusal : (r : Reading) → AllRead (r ∷ rs) → refusal r ≡ 0
-  its_refusal (Means x) h = refl
-  its_refusal WrongCode h = absurd h
-  its_refusal WrongAmount h = absurd h
+  its_refusal (Ok x) h = refl
+  its_refusal (Err WrongCode) h = absurd h
+  its_refusal (Err WrongAmount) h = absurd h
 
 -- ---- as many as there are four bytes
 pub counted : {A : Type 0} (each : ℕ → ℕ → ℕ → ℕ → A) (n : ℕ) (l : List ℕ) → length l ≡ 4 * n → length (every_four each l) ≡ n

@@ -8,8 +8,9 @@ use native.Mathlib.Numerals.{towards_suc}
 use native.Mathlib.Omega.{arith}
 use lib.ListN.{length, get_or, drop, length-drop}
 use lib.Seq.{drop-cons}
-use Rattle.shift.specs.declared.Reading.{Reading}
-use Rattle.shift.specs.declared.Reading.TheVariants.{WrongCode}
+use Rattle.std.specs.Prelude.{Err}
+use Rattle.shift.specs.Readings.{Reading}
+use Rattle.shift.specs.declared.Misread.TheVariants.{WrongCode}
 use Rattle.stepfile.specs.Records.{record_of, records_in}
 
 -- the record at a place of a part
@@ -36,7 +37,7 @@ pub no_more : (l : List ℕ) (i : ℕ) → length l ≤ i + 3 → records_in (dr
 no_more l i h = short (drop i l) (simp length-drop (omega arith))
 
 -- the record at an index stands at four times that place
-pub record_in : (l : List ℕ) (i : ℕ) → i < length (records_in l) → get_or (records_in l) i WrongCode ≡ record_at l (4 * i)
+pub record_in : (l : List ℕ) (i : ℕ) → i < length (records_in l) → get_or (records_in l) i (Err WrongCode) ≡ record_at l (4 * i)
 record_in [] i h = absurd (omega arith)
 record_in (a ∷ []) i h = absurd (omega arith)
 record_in (a ∷ b ∷ []) i h = absurd (omega arith)

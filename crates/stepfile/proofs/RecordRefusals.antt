@@ -13,8 +13,7 @@ use Rattle.checks.proofs.ConditionLaws.{no_other, one_of}
 use Rattle.shift.specs.Answers.{reading, refusal}
 use Rattle.shift.specs.Refusals.{refusals}
 use Rattle.shift.proofs.Refusals.{in_order}
-use Rattle.stepfile.specs.declared.write.Wrong.{Wrong}
-use Rattle.stepfile.specs.Writing.{wrong_or, first_wrong}
+use Rattle.stepfile.specs.Writing.{Wrong, wrong_or, first_wrong}
 use Rattle.stepfile.specs.Refusals.{WrongAt}
 
 abbrev pub ReadsAt : List ℕ → List ℕ → ℕ → Type 0

@@ -19,12 +19,13 @@ use Rattle.stepfile.specs.Records.{record_of, every_four, records_in}
 use Rattle.stepfile.specs.Files.{table_entries, record_offset, record_count, most_records, headed, table_in, refusal_of, record_bytes, readings_of}
 use Rattle.stepfile.specs.Writing.{entries_for, most_for, header_of, records_of, file_with, file_of, first_wrong, lists, writable}
 use Rattle.stepfile.specs.RoundTrip.{Bytes, readings_by, AllRead, codes_of, amounts_of, OtherEntries, codes_in, amounts_in}
+use Rattle.stepfile.proofs.ByteLaws.{length-u16s_at}
 use Rattle.stepfile.proofs.EntryLaws.{Few, at_most_22, how_many, same_table}
 use Rattle.stepfile.proofs.WritingLaws.{size}
 use Rattle.stepfile.proofs.TableLaws.{dropped, read_back, entries_back, offset_back, count_back, with_twenty_two, with_eighteen, headed_well, well, records_from, behind}
 use Rattle.stepfile.proofs.StepLaws.{records_back, all_read}
 use Rattle.stepfile.proofs.ReadLaws.{counted, records_written, none_wrong}
-use Rattle.stepfile.proofs.WholeLaws.{GoodFile, good_file, numbers_written, length-u16s_at, six, others_in_eighteen, entries_in, no_more_than_written, assembled}
+use Rattle.stepfile.proofs.WholeLaws.{GoodFile, good_file, numbers_written, six, others_in_eighteen, entries_in, no_more_than_written, assembled}
 
 -- ---- a file with entries, codes and amounts
 module _ (es cs ns : List ℕ) (e : length cs ≡ length ns) where

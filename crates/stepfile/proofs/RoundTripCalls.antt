@@ -1,6 +1,7 @@
 -- The round trip of files through a call of `write`: what it leaves in the lent buffer reads back, and a good file that was taken apart
 -- stands there again, in eighteen entries where it had none or twenty-two with four zeros.
 -- Assumes nothing.
+use Rattle.std.proofs.Common.{Option}
 use mathlib.Core.Path.{◌≡◌, sym, ap, subst, ◌∙◌}
 use mathlib.Core.List.{List}
 use Prim.Native.Nat.{ℕ, ◌+◌, ◌*◌, ◌-◌, ◌≤◌}
@@ -17,12 +18,11 @@ use Rattle.checks.proofs.Checks.{first→holds}
 use Rattle.checks.proofs.Tests.{case}
 use Rattle.limits.specs.declared.Table.{Table}
 use Rattle.limits.specs.Rules.{broken_rule}
-use Rattle.shift.specs.declared.Reading.{Reading}
-use Rattle.stepfile.specs.declared.write.Wish.{Wish}
-use Rattle.stepfile.specs.declared.write.Written.{Written}
-use Rattle.stepfile.specs.declared.write.Wrong.{Wrong}
+use Rattle.shift.specs.Readings.{Reading}
+use Rattle.std.proofs.Common.{Result}
+use Rattle.stepfile.specs.declared.write.Unwritten.{Unwritten}
 use Rattle.stepfile.specs.Files.{table_entries, table_in, refusal_of, readings_of}
-use Rattle.stepfile.specs.Writing.{wished, entries_for, file_of, size_of, first_wrong, writable, fitting, after_records, after_lists, written_of, buffer_after}
+use Rattle.stepfile.specs.Writing.{Written, Wrong, wished, entries_for, file_of, size_of, first_wrong, writable, fitting, after_records, after_lists, written_as, written_of, buffer_after}
 use Rattle.stepfile.specs.RoundTrip.{Bytes, readings_by, AllRead, OtherEntries, codes_in, amounts_in}
 use Rattle.stepfile.proofs.WritingLaws.{size}
 use Rattle.stepfile.proofs.WriteLaws.{written}
@@ -162,10 +162,13 @@ module _
 
 -- ---- of a call of `write`, whatever its contract allows
 module _
-    (κs : Lfts 3) (given : Args write_call.signature κs) (r : Written) (left : AtExit write_call.ended κs)
+    (κs : Lfts 3) (given : Args write_call.signature κs) (r : Result ℕ Unwritten) (left : AtExit write_call.ended κs)
     (call : write_reads.Post κs given r left) where
-  abbrev pub wish : Wish
+  abbrev pub wish : Option Table
   wish = given.0
+
+  abbrev pub answer : Written
+  answer = written_as r
 
   abbrev pub codes : List ℕ
   codes = given.1.0.now
@@ -180,15 +183,15 @@ module _
   abbrev pub after : List ℕ
   after = left.1.1.1.0.now
 
-  pub write_reads_back : r.number ≡ 0 → Stands (wished wish) (readings_by codes amounts) r.length before after
-  write_reads_back = reads_back (wished wish) codes amounts before after r call.0 call.1
+  pub write_reads_back : answer.number ≡ 0 → Stands (wished wish) (readings_by codes amounts) answer.length before after
+  write_reads_back = reads_back (wished wish) codes amounts before after answer call.0 call.1
 
   pub write_gives_the_file_back :
       (f : List ℕ) → TakenApart f codes amounts → wished wish ≡ table_in f → ¬ OtherEntries f → length f ≤ length before
-      → StandsAgain f r before after
-  write_gives_the_file_back = gives_the_file_back (wished wish) codes amounts before after r call.0 call.1
+      → StandsAgain f answer before after
+  write_gives_the_file_back = gives_the_file_back (wished wish) codes amounts before after answer call.0 call.1
 
   pub write_gives_the_file_in_eighteen :
       (f : List ℕ) → TakenApart f codes amounts → wished wish ≡ table_in f → OtherEntries f → long_in_eighteen f ≤ length before
-      → StandsInEighteen f r before after
-  write_gives_the_file_in_eighteen = gives_the_file_in_eighteen (wished wish) codes amounts before after r call.0 call.1
+      → StandsInEighteen f answer before after
+  write_gives_the_file_in_eighteen = gives_the_file_in_eighteen (wished wish) codes amounts before after answer call.0 call.1

@@ -5,14 +5,14 @@ use mathlib.Core.List.{List, [], ◌∷◌}
 use Prim.Native.Nat.{ℕ, zero, suc, ◌+◌, ◌*◌, ◌/◌, ◌%◌, ◌<◌}
 use native.Mathlib.Omega.{arith}
 use native.Mathlib.Decide.{dec_lt}
-use Rattle.shift.specs.declared.Reading.{Reading}
-use Rattle.shift.specs.declared.Reading.TheVariants.{Means, WrongCode, WrongAmount}
+use Rattle.std.specs.Prelude.{Ok, Err}
+use Rattle.shift.specs.Readings.{Reading}
+use Rattle.shift.specs.declared.Misread.TheVariants.{WrongCode, WrongAmount}
 use Rattle.shift.specs.Answers.{reading, refusal}
 use Rattle.shift.proofs.ReadingLaws.{past_codes}
 use Rattle.numbers.specs.Bytes.{bytes_of}
 use Rattle.stepfile.specs.Records.{record_of, records_in}
-use Rattle.stepfile.specs.declared.write.Wrong.{Wrong}
-use Rattle.stepfile.specs.Writing.{wrong_or, first_wrong, records_of}
+use Rattle.stepfile.specs.Writing.{Wrong, wrong_or, first_wrong, records_of}
 use Rattle.stepfile.specs.RoundTrip.{readings_by, AllRead}
 
 -- ---- codes and amounts that are all steps
@@ -49,9 +49,9 @@ records_back i (c ∷ cs) (n ∷ ns) e =
     ap (λ x. x ∷ records_in (bytes_of (records_of cs ns))) this ∙ ap (λ l. reading c 0 n ∷ l) rest
 
 one_read : (r : Reading) (rs : List Reading) → refusal r ≡ 0 → AllRead rs → AllRead (r ∷ rs)
-one_read (Means x) rs e a = a
-one_read WrongCode rs e a = absurd (omega arith)
-one_read WrongAmount rs e a = absurd (omega arith)
+one_read (Ok x) rs e a = a
+one_read (Err WrongCode) rs e a = absurd (omega arith)
+one_read (Err WrongAmount) rs e a = absurd (omega arith)
 
 pub all_read : (i : ℕ) (cs ns : List ℕ) → (first_wrong i cs ns).number ≡ 0 → AllRead (readings_by cs ns)
 all_read i [] ns e = tt

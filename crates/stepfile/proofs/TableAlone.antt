@@ -11,8 +11,9 @@ use denote.Triple.Entry.{Args}
 use denote.Triple.Clauses.{AtExit}
 use Rattle.limits.specs.declared.Table.{Table}
 use Rattle.limits.specs.Rules.{broken_rule}
-use Rattle.stepfile.specs.declared.write.Written.{Written}
-use Rattle.stepfile.specs.Writing.{wished, entries_for, most_for, size_of, written_of, buffer_after}
+use Rattle.std.proofs.Common.{Result}
+use Rattle.stepfile.specs.declared.write.Unwritten.{Unwritten}
+use Rattle.stepfile.specs.Writing.{Written, wished, entries_for, most_for, size_of, written_as, written_of, buffer_after}
 use Rattle.stepfile.proofs.RoundTrip.{accepting}
 use Rattle.stepfile.proofs.RoundTripCalls as calls
 use Rattle.stepfile.proofs.RoundTripCalls.{Stands, long, stands, reads_back}
@@ -35,7 +36,7 @@ alone t before after r a b h room =
     record { answer = n; stands = reads_back t [] [] before after r a b (ap (λ (q : Written). q.number) n) }
 
 module _
-    (κs : Lfts 3) (given : Args write_call.signature κs) (r : Written) (left : AtExit write_call.ended κs)
+    (κs : Lfts 3) (given : Args write_call.signature κs) (r : Result ℕ Unwritten) (left : AtExit write_call.ended κs)
     (call : write_reads.Post κs given r left) where
   abbrev table : Table
   table = wished (calls.wish κs given r left call)
@@ -45,8 +46,8 @@ module _
 
   pub an_admitted_table_alone_reads_back :
       calls.codes κs given r left call ≡ [] → calls.amounts κs given r left call ≡ [] → broken_rule table ≡ 0
-      → 12 + 2 * length (entries_for table) ≤ length before → StandsAlone table r before (calls.after κs given r left call)
+      → 12 + 2 * length (entries_for table) ≤ length before → StandsAlone table (written_as r) before (calls.after κs given r left call)
   an_admitted_table_alone_reads_back c n =
-      alone table before (calls.after κs given r left call) r
+      alone table before (calls.after κs given r left call) (written_as r)
       (call.0 ∙ ap (λ cs. written_of table cs (calls.amounts κs given r left call) (length before)) c ∙ ap (λ ns. written_of table [] ns (length before)) n)
       (call.1 ∙ ap (λ cs. buffer_after table cs (calls.amounts κs given r left call) before) c ∙ ap (λ ns. buffer_after table [] ns before) n)

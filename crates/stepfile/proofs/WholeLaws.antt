@@ -1,6 +1,6 @@
 -- Laws on a good file as a whole: what its checks tell, and its bytes as header, entries and records.
 -- Assumes nothing.
-use mathlib.Core.Path.{◌≡◌, refl, sym, ap, ◌∙◌}
+use mathlib.Core.Path.{◌≡◌, sym, ap, ◌∙◌}
 use mathlib.Core.Logic.{inl, inr}
 use mathlib.Core.List.{List, [], ◌∷◌, ◌++◌}
 use Prim.Native.Nat.{ℕ, zero, suc, ◌+◌, ◌*◌, ◌/◌, ◌%◌, ◌≤◌, ◌<◌}
@@ -71,10 +71,6 @@ module _ (l : List ℕ) (h : Bytes l) where
       ap (λ j. bytes_of (u16s_at l i (suc m)) ++ drop j l) next
       ∙ ap (λ t. u16_at l i % 256 ∷ u16_at l i / 256 ∷ t) (numbers_written (i + 2) m (omega arith))
       ∙ two_bytes i (omega arith)
-
-pub length-u16s_at : (l : List ℕ) (i m : ℕ) → length (u16s_at l i m) ≡ m
-length-u16s_at l i zero = refl
-length-u16s_at l i (suc m) = ap suc (length-u16s_at l (i + 2) m)
 
 -- ---- the header's six numbers
 pub six : (a b c d e g k n : ℕ) → a ≡ 12 → b ≡ k → c + 65536 * d ≡ 12 + 2 * k → e + 65536 * g ≡ n → k ≤ 22 → n ≤ 16372

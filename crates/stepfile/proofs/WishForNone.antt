@@ -11,10 +11,10 @@ use denote.Triple.Clauses.{AtExit}
 use Rattle.limits.specs.Limits.{new_default}
 use Rattle.limits.specs.Refusals.{by_new_default}
 use Rattle.limits.specs.Rules.{broken_rule}
-use Rattle.stepfile.specs.declared.write.Wish.TheVariants.{NoTable}
-use Rattle.stepfile.specs.declared.write.Written.{Written}
+use Rattle.std.proofs.Common.{None, Result}
+use Rattle.stepfile.specs.declared.write.Unwritten.{Unwritten}
 use Rattle.stepfile.specs.Files.{table_entries}
-use Rattle.stepfile.specs.Writing.{wished, most_for, first_wrong, refused_with, written_of, buffer_after}
+use Rattle.stepfile.specs.Writing.{Written, wished, most_for, first_wrong, refused_with, written_as, written_of, buffer_after}
 use Rattle.stepfile.specs.RoundTrip.{readings_by}
 use Rattle.stepfile.proofs.WriteLaws.{at_room}
 use Rattle.stepfile.proofs.RoundTrip.{accepting, written_in_so_many}
@@ -57,8 +57,8 @@ module _
 
 -- ---- of a call of `write`, whatever its contract allows
 module _
-    (κs : Lfts 3) (given : Args write_call.signature κs) (r : Written) (left : AtExit write_call.ended κs)
-    (call : write_reads.Post κs given r left) (none : given.0 ≡ NoTable) where
+    (κs : Lfts 3) (given : Args write_call.signature κs) (r : Result ℕ Unwritten) (left : AtExit write_call.ended κs)
+    (call : write_reads.Post κs given r left) (none : given.0 ≡ None) where
   abbrev codes : List ℕ
   codes = calls.codes κs given r left call
 
@@ -71,17 +71,20 @@ module _
   abbrev after : List ℕ
   after = calls.after κs given r left call
 
-  answered : r ≡ written_of new_default codes amounts (length before)
+  abbrev answer : Written
+  answer = written_as r
+
+  answered : answer ≡ written_of new_default codes amounts (length before)
   answered = call.0 ∙ ap (λ w. written_of (wished w) codes amounts (length before)) none
 
   left_there : after ≡ buffer_after new_default codes amounts before
   left_there = call.1 ∙ ap (λ w. buffer_after (wished w) codes amounts before) none
 
-  pub the_wish_for_none_reads_back : r.number ≡ 0 → StandsForNone codes amounts r before after
-  the_wish_for_none_reads_back = none_reads_back codes amounts before after r answered left_there
+  pub the_wish_for_none_reads_back : answer.number ≡ 0 → StandsForNone codes amounts answer before after
+  the_wish_for_none_reads_back = none_reads_back codes amounts before after answer answered left_there
 
   pub the_wish_for_none_without_room :
       length codes ≡ length amounts → length codes ≤ 16372 → (first_wrong 0 codes amounts).number ≡ 0
       → length before < 48 + 4 * length codes
-      → (r ≡ refused_with 15 0 0) × (after ≡ before)
-  the_wish_for_none_without_room = none_without_room codes amounts before after r answered left_there
+      → (answer ≡ refused_with 15 0 0) × (after ≡ before)
+  the_wish_for_none_without_room = none_without_room codes amounts before after answer answered left_there

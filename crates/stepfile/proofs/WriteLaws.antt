@@ -1,6 +1,6 @@
 -- Laws on what the writer answers and leaves in the buffer, by the check that it stops at.
 -- Assumes nothing.
-use mathlib.Core.Path.{◌≡◌, sym, ap, ◌∙◌}
+use mathlib.Core.Path.{◌≡◌, refl, sym, ap, subst, ◌∙◌}
 use mathlib.Core.Bool.{cond}
 use mathlib.Core.List.{List, [], ◌∷◌, ◌++◌}
 use Prim.Native.Nat.{ℕ, zero, suc, ◌≤◌, ◌<◌, zero-le}
@@ -14,12 +14,46 @@ use Rattle.checks.proofs.Tests.{case}
 use Rattle.checks.proofs.Ranges.{from}
 use Rattle.limits.specs.declared.Table.{Table}
 use Rattle.limits.specs.Rules.{broken_rule}
-use Rattle.shift.specs.declared.Reading.TheVariants.{WrongCode}
+use Rattle.limits.proofs.NumberLaws.{rule_of, again}
+use Rattle.shift.specs.declared.Misread.TheVariants.{WrongCode, WrongAmount}
 use Rattle.shift.specs.declared.Step.{Step}
 use Rattle.shift.specs.Answers.{plain, ticking, reading, readings, refusal}
-use Rattle.stepfile.specs.declared.write.Written.{Written}
-use Rattle.stepfile.specs.Writing.{file_of, size_of, first_wrong, writable, refused_with, fitting, after_records, after_lists, written_of, buffer_after}
+use Rattle.std.proofs.Common.{Result, Ok, Err}
+use Rattle.stepfile.specs.declared.write.Unwritten.{Unwritten}
+use Rattle.stepfile.specs.declared.write.Unwritten.TheVariants.{TooMany, Uneven, Record, NoRoom}
+use Rattle.stepfile.specs.Writing.{Wrong, Written, file_of, size_of, first_wrong, Names, writable, refused_with, written_as, fitting, after_records, after_lists, written_of, buffer_after}
 use Rattle.stepfile.proofs.StepLaws.{right}
+
+-- ---- an answer is told by its number and its values
+abbrev numbered : ℕ → ℕ → ℕ → ℕ → Result ℕ Unwritten
+numbered zero rule index size = Ok size
+numbered (suc (suc zero)) rule index size = Err TooMany
+numbered (suc (suc (suc zero))) rule index size = Err Uneven
+numbered (suc (suc (suc (suc zero)))) rule index size = Err (Unwritten.Table (rule_of rule))
+numbered (suc (suc (suc (suc (suc zero))))) rule index size = Err (Record index WrongCode)
+numbered (suc (suc (suc (suc (suc (suc zero)))))) rule index size = Err (Record index WrongAmount)
+numbered others rule index size = Err NoRoom
+
+told_by :
+    (r : Result ℕ Unwritten) → numbered (written_as r).number (written_as r).rule (written_as r).index (written_as r).length ≡ r
+told_by (Ok size) = refl
+told_by (Err TooMany) = refl
+told_by (Err Uneven) = refl
+told_by (Err (Unwritten.Table rule)) = ap (λ r. Err (Unwritten.Table r)) (again rule)
+told_by (Err (Record index WrongCode)) = refl
+told_by (Err (Record index WrongAmount)) = refl
+told_by (Err NoRoom) = refl
+
+-- what is not written has no length
+pub no_length : (x : Unwritten) → (written_as (Err x)).length ≡ 0
+no_length TooMany = refl
+no_length Uneven = refl
+no_length (Unwritten.Table rule) = refl
+no_length (Record index misread) = refl
+no_length NoRoom = refl
+
+pub one_answer : (x y : Result ℕ Unwritten) → written_as x ≡ written_as y → x ≡ y
+one_answer x y e = sym (told_by x) ∙ ap (λ (r : Written). numbered r.number r.rule r.index r.length) e ∙ told_by y
 
 module _ (t : Table) (cs ns out : List ℕ) where
   -- the writer's answer and the buffer after it
@@ -59,6 +93,16 @@ module _ (t : Table) (cs ns out : List ℕ) where
         kept (refused_with x.number 0 x.index) n (there ∙ on)
 
     -- all records read
+    pub at_named : (x : Unwritten) → Names x (first_wrong 0 cs ns) → Leaves (written_as (Err x)) out
+    at_named TooMany w = absurd w
+    at_named Uneven w = absurd w
+    at_named (Unwritten.Table rule) w = absurd w
+    at_named (Record index WrongCode) w =
+        subst (λ (q : Wrong). Leaves (refused_with q.number 0 q.index) out) w (at_record (λ z. let q = ap (λ (q : Wrong). q.number) w in omega arith))
+    at_named (Record index WrongAmount) w =
+        subst (λ (q : Wrong). Leaves (refused_with q.number 0 q.index) out) w (at_record (λ z. let q = ap (λ (q : Wrong). q.number) w in omega arith))
+    at_named NoRoom w = absurd w
+
     module _ (z : (first_wrong 0 cs ns).number ≡ 0) where
       last : fitting (size_of t cs) (length out) ≡ written_of t cs ns (length out)
       last =
@@ -101,7 +145,7 @@ amount_small c n e =
             λ q. absurd (omega arith),
             (plain_small _ n, (plain_small _ n, (plain_small _ n, (plain_small _ n, (plain_small _ n, (plain_small _ n, (plain_small _ n, (plain_small _ n, (plain_small _ n, (plain_small _ n, (plain_small _ n, (tick_small n, (plain_small _ n, tt))))))))))))),
           ) c zero-le h e
-      | no h ↦ let q = rw (get_or-eq_default (readings 0 n) WrongCode {n = c} (omega arith)) at e in absurd (omega arith)
+      | no h ↦ let q = rw (get_or-eq_default (readings 0 n) (Err WrongCode) {n = c} (omega arith)) at e in absurd (omega arith)
     ]
 
 pub amounts_small : (i : ℕ) (cs ns : List ℕ) → length cs ≡ length ns → (first_wrong i cs ns).number ≡ 0 → (j : ℕ) → get_or ns j 0 < 65536

@@ -1,5 +1,6 @@
 -- Laws on a write against the words of specs/Refusals.antt: it answers the first number whose condition holds.
 -- Assumes nothing.
+use Rattle.std.proofs.Common.{Option, Some, None}
 use mathlib.Core.Path.{◌≡◌, refl, sym, ap, subst, ◌∙◌}
 use mathlib.Core.Bool.{cond}
 use mathlib.Core.Logic.{inl, inr, ⊎_elim}
@@ -14,14 +15,11 @@ use Rattle.checks.specs.Conditions.{Condition, ◌gives◌, ◌else◌, FirstOf}
 use Rattle.checks.proofs.Checks.{first→holds, first-append, at_most}
 use Rattle.checks.proofs.ConditionLaws.{first_of, one_of, of_left, of_right}
 use Rattle.checks.proofs.Tests.{tests, case, neqb→ne}
+use Rattle.limits.specs.declared.Table.{Table}
 use Rattle.limits.specs.Rules.{broken_rule}
 use Rattle.limits.specs.Refusals.{Admitted}
 use Rattle.limits.proofs.Refusals.{admitted, not_admitted}
-use Rattle.stepfile.specs.declared.write.Wish.{Wish}
-use Rattle.stepfile.specs.declared.write.Wish.TheVariants.{Given, NoTable}
-use Rattle.stepfile.specs.declared.write.Wrong.{Wrong}
-use Rattle.stepfile.specs.declared.write.Written.{Written}
-use Rattle.stepfile.specs.Writing.{wished, entries_for, most_for, first_wrong, size_of, writable, refused_with, written_of, buffer_after, file_of}
+use Rattle.stepfile.specs.Writing.{Wrong, Written, wished, entries_for, most_for, first_wrong, size_of, writable, refused_with, written_of, buffer_after, file_of}
 use Rattle.stepfile.specs.Refusals.{WrongAt, table_for, TooMany, WrittenWith, write_refusals, WriteAnswers}
 use Rattle.stepfile.proofs.EntryLaws.{past_most, within_most, written_with, with_no_others}
 use Rattle.stepfile.proofs.WriteLaws.{at_lists, at_record, at_room, written}
@@ -29,19 +27,19 @@ use Rattle.stepfile.proofs.FileRefusals.{ruled}
 use Rattle.stepfile.proofs.RecordRefusals.{found, same, one_number, five_or_six}
 
 -- ---- a write
-same_table : (w : Wish) → wished w ≡ table_for w
-same_table (Given t) = refl
-same_table NoTable = refl
+same_table : (w : Option Table) → wished w ≡ table_for w
+same_table (Some t) = refl
+same_table None = refl
 
 -- the record maximum, by how the table would be written
-pub too_many : (w : Wish) (n : ℕ) → most_for (wished w) < n → (k : ℕ) × WrittenWith w k × TooMany k n
+pub too_many : (w : Option Table) (n : ℕ) → most_for (wished w) < n → (k : ℕ) × WrittenWith w k × TooMany k n
 too_many w n h = (length (entries_for (wished w)), written_with w, past_most (length (entries_for (wished w))) n h)
 
-pub not_too_many : (w : Wish) (n : ℕ) → n ≤ most_for (wished w) → ¬ ((k : ℕ) × WrittenWith w k × TooMany k n)
+pub not_too_many : (w : Option Table) (n : ℕ) → n ≤ most_for (wished w) → ¬ ((k : ℕ) × WrittenWith w k × TooMany k n)
 not_too_many w n h q =
     within_most (length (entries_for (wished w))) n h (subst (λ k. TooMany k n) (with_no_others w q.0 q.1) q.2)
 
-module _ (w : Wish) (cs ns out : List ℕ) where
+module _ (w : Option Table) (cs ns out : List ℕ) where
   abbrev list_refusals : List Condition
   list_refusals =
       ((length cs ≡ length ns) else 3)

@@ -1,13 +1,14 @@
 -- Document 01, "Step files, parts and writing", with the twenty-two entries of document 02's request 6: the header of a file, refusals
 -- 1 to 4, its table and its record bytes.
 -- Assumes nothing.
-use Rattle.std.specs.Prelude.{cond, ◌&&◌, ◌||◌, List, [], ◌∷◌, ◌++◌, ℕ, ◌+◌, ◌*◌, leb, eqb, length, drop}
+use Rattle.std.specs.Prelude.{cond, ◌&&◌, ◌||◌, List, [], ◌∷◌, ◌++◌, ℕ, ◌+◌, ◌*◌, leb, eqb, length, drop, Result, Ok, Err}
 use Rattle.checks.specs.Checks.{Check, ◌!◌, first}
 use Rattle.limits.specs.declared.Table.{Table}
 use Rattle.limits.specs.Limits.{table_of, old_default}
-use Rattle.limits.specs.Rules.{broken_rule}
-use Rattle.shift.specs.declared.Reading.{Reading}
-use Rattle.stepfile.specs.declared.Refusal.{Refusal}
+use Rattle.limits.specs.Rules.{number_of, broken_rule}
+use Rattle.shift.specs.Readings.{Reading}
+use Rattle.stepfile.specs.declared.Unread.{Unread}
+use Rattle.stepfile.specs.declared.Unread.TheVariants.{TooShort, Header, Length}
 use Rattle.numbers.specs.Bytes.{u16_at, u32_at, u16s_at}
 use Rattle.stepfile.specs.Records.{records_in}
 
@@ -50,6 +51,10 @@ table_in f =
     (cond (eqb (table_entries f) 18 && leb 48 (length f)) (table_of (u16s_at f 12 18)) old_default)
 
 -- ---- refusals 1 to 4, the rule's number with 4 and 0 otherwise
+pub record Refusal : Type 0 where
+  pub number : ℕ
+  pub rule : ℕ
+
 abbrev pub checks : List ℕ → List Check
 checks f = headed f ++ ((eqb (broken_rule (table_in f)) 0 ! 4) ∷ [])
 
@@ -58,6 +63,14 @@ refusing number rule = record { number = number; rule = cond (eqb number 4) rule
 
 abbrev pub refusal_of : List ℕ → Refusal
 refusal_of f = refusing (first (checks f)) (broken_rule (table_in f))
+
+-- each answer with its number, and 0 where the file is not refused
+abbrev pub refused_as : Result (Unit {0}) Unread → Refusal
+refused_as (Ok done) = record { number = 0; rule = 0 }
+refused_as (Err TooShort) = record { number = 1; rule = 0 }
+refused_as (Err Header) = record { number = 2; rule = 0 }
+refused_as (Err Length) = record { number = 3; rule = 0 }
+refused_as (Err (Unread.Table rule)) = record { number = 4; rule = number_of rule }
 
 -- ---- the record bytes: what stands from the record offset on; of a file that is refused with 1 to 4 none
 abbrev pub from_offset : List ℕ → List ℕ

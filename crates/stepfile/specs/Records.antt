@@ -1,7 +1,7 @@
 -- Document 01, "Step files, parts and writing": what a record's four bytes mean, and what the records of a part mean.
 -- Assumes nothing.
 use Rattle.std.specs.Prelude.{List, [], ◌∷◌, ℕ, ◌+◌, ◌*◌}
-use Rattle.shift.specs.declared.Reading.{Reading}
+use Rattle.shift.specs.Readings.{Reading}
 use Rattle.shift.specs.Answers.{reading}
 
 -- code, a zero byte, amount

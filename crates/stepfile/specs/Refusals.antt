@@ -2,15 +2,13 @@
 -- when a file and a write are refused, as statements, what a good file holds, and what a refused write leaves. It shares no definition
 -- with Bytes.antt, Files.antt, Records.antt and Writing.antt.
 -- Assumes nothing.
-use Rattle.std.specs.Prelude.{◌≡◌, cond, ◌⊎◌, List, [], ◌∷◌, ℕ, ◌+◌, ◌*◌, ◌≤◌, ◌<◌, eqb, length, get_or}
+use Rattle.std.specs.Prelude.{◌≡◌, cond, ◌⊎◌, List, [], ◌∷◌, ℕ, ◌+◌, ◌*◌, ◌≤◌, ◌<◌, eqb, length, get_or, Option, Some, None, Err}
 use Rattle.checks.specs.Conditions.{Condition, ◌gives◌, ◌else◌, FirstOf, OneOf}
 use Rattle.limits.specs.declared.Table.{Table}
 use Rattle.limits.specs.Refusals.{by_old_default, by_new_default, NoDelays, Admitted, broken}
-use Rattle.shift.specs.declared.Reading.{Reading}
-use Rattle.shift.specs.declared.Reading.TheVariants.{WrongCode}
+use Rattle.shift.specs.Readings.{Reading}
+use Rattle.shift.specs.declared.Misread.TheVariants.{WrongCode}
 use Rattle.shift.specs.Refusals.{refusals, Reads}
-use Rattle.stepfile.specs.declared.write.Wish.{Wish}
-use Rattle.stepfile.specs.declared.write.Wish.TheVariants.{Given, NoTable}
 
 -- the rule's number: with 4 that of the first rule that the table breaks, else 0
 pub record RuleFor (t : Table) (number rule : ℕ) : Type 0 where
@@ -99,7 +97,7 @@ pub record FileHolds (f : List ℕ) (t : Table) (records : List Reading) : Type 
   pub count : length records ≡ bits32 f 8
   pub each :
       (i : ℕ) → i < length records
-      → Reads (get_or f (place f i) 0) (get_or f (place f i + 1) 0) (bits16 f (place f i + 2)) (get_or records i WrongCode)
+      → Reads (get_or f (place f i) 0) (get_or f (place f i + 1) 0) (bits16 f (place f i + 2)) (get_or records i (Err WrongCode))
 
 -- ---- a write
 
@@ -110,17 +108,17 @@ pub record WrongAt (codes amounts : List ℕ) (number index : ℕ) : Type 0 wher
   pub before : (i : ℕ) → i < index → FirstOf (refusals (get_or codes i 0) 0 (get_or amounts i 0)) 0
 
 -- the wish for no table means the new default
-abbrev pub table_for : Wish → Table
-table_for (Given t) = t
-table_for NoTable = by_new_default
+abbrev pub table_for : Option Table → Table
+table_for (Some t) = t
+table_for None = by_new_default
 
 -- it is written with so many entries: a table whose four delays are 0 with 18, any other with 22, and the new default with 18
-abbrev pub WrittenWith : Wish → ℕ → Type 0
-WrittenWith (Given t) entries = (NoDelays t × (entries ≡ 18)) ⊎ (¬ NoDelays t × (entries ≡ 22))
-WrittenWith NoTable entries = entries ≡ 18
+abbrev pub WrittenWith : Option Table → ℕ → Type 0
+WrittenWith (Some t) entries = (NoDelays t × (entries ≡ 18)) ⊎ (¬ NoDelays t × (entries ≡ 22))
+WrittenWith None entries = entries ≡ 18
 
 -- 3, 2, 4, first record with 5 or 6, 15
-abbrev pub write_refusals : Wish → List ℕ → List ℕ → List ℕ → List Condition
+abbrev pub write_refusals : Option Table → List ℕ → List ℕ → List ℕ → List Condition
 write_refusals wish codes amounts out =
     ((length codes ≡ length amounts) else 3)
     ∷ (((k : ℕ) × WrittenWith wish k × TooMany k (length codes)) gives 2)
@@ -131,7 +129,7 @@ write_refusals wish codes amounts out =
     ∷ []
 
 -- a write that answers a number, a rule, an index and a length, and the buffer after it
-pub record WriteAnswers (wish : Wish) (codes amounts out : List ℕ) (number rule index size : ℕ) (after : List ℕ) : Type 0 where
+pub record WriteAnswers (wish : Option Table) (codes amounts out : List ℕ) (number rule index size : ℕ) (after : List ℕ) : Type 0 where
   pub first : FirstOf (write_refusals wish codes amounts out) number
   pub numbers : OneOf (0 ∷ 2 ∷ 3 ∷ 4 ∷ 5 ∷ 6 ∷ 15 ∷ []) number
   pub rule_for : RuleFor (table_for wish) number rule

@@ -1,9 +1,9 @@
 -- What stands in a file, as the writer takes it: codes and amounts; what these mean; and which files it writes with other entries.
 -- Assumes nothing.
-use Rattle.std.specs.Prelude.{◌≡◌, ◌⊎◌, List, [], ◌∷◌, ℕ, ◌+◌, ◌*◌, ◌<◌, get_or}
+use Rattle.std.specs.Prelude.{◌≡◌, ◌⊎◌, List, [], ◌∷◌, ℕ, ◌+◌, ◌*◌, ◌<◌, get_or, Ok, Err}
 use Rattle.limits.specs.Refusals.{NoDelays}
-use Rattle.shift.specs.declared.Reading.{Reading}
-use Rattle.shift.specs.declared.Reading.TheVariants.{Means, WrongCode, WrongAmount}
+use Rattle.shift.specs.Readings.{Reading}
+use Rattle.shift.specs.declared.Misread.TheVariants.{WrongCode, WrongAmount}
 use Rattle.shift.specs.Answers.{reading}
 use Rattle.stepfile.specs.Records.{every_four}
 use Rattle.stepfile.specs.Files.{table_entries, table_in, record_bytes}
@@ -21,9 +21,9 @@ readings_by (c ∷ cs) (n ∷ ns) = reading c 0 n ∷ readings_by cs ns
 -- all of them are steps
 abbrev pub AllRead : List Reading → Type 0
 AllRead [] = Unit {0}
-AllRead (Means x ∷ rs) = AllRead rs
-AllRead (WrongCode ∷ rs) = ⊥
-AllRead (WrongAmount ∷ rs) = ⊥
+AllRead (Ok x ∷ rs) = AllRead rs
+AllRead (Err WrongCode ∷ rs) = ⊥
+AllRead (Err WrongAmount ∷ rs) = ⊥
 
 -- the codes and the amounts of the records of a part
 abbrev pub codes_of : List ℕ → List ℕ

@@ -7,43 +7,77 @@ ghost use Rattle.checks.specs.Checks.{first};
 ghost use Rattle.shift.specs.Answers.{refusal};
 ghost use Rattle.numbers.specs.Bytes.{u16s_at};
 ghost use Rattle.stepfile.specs.Records.{record_of};
-ghost use Rattle.stepfile.specs.Files.{most_records, headed, headed_by, table_in, refusal_of, from_offset, record_bytes};
+ghost use Rattle.stepfile.specs.Files.{most_records, headed, headed_by, table_in, refusal_of, refused_as, from_offset, record_bytes};
 
-use limits::Table;
+use limits::{Rule, Table};
 use numbers::{u16_at, u32_at};
 use shift::{Reading, Step, refusal_of};
 
 pub mod write;
 
-// Refusal 1 to 4 of a file, or 0; the rule's number with 4, else 0.
-#[derive(Clone, Copy)]
-pub struct Refusal {
-    pub number: u8,
-    pub rule: u8,
+// Why a file is not read: refusals 1 to 4.
+#[derive(Clone, Copy, Debug, PartialEq, Eq)]
+pub enum Unread {
+    // It has no header.
+    TooShort,
+    // A field of its header, or too many records.
+    Header,
+    // It is not as long as its header says.
+    Length,
+    // Its table, with the first rule that it breaks.
+    Table(Rule),
+}
+
+impl From<Rule> for Unread {
+    ghost use Rattle.stepfile.specs.declared.Unread.{Unread};
+
+    ghost from_gives = { λ rule unread. unread ≡ Unread.Table rule };
+
+    fn from(rule: Rule) -> Unread {
+        Unread::Table(rule)
+    }
+}
+
+impl Unread {
+    // A number of document 01's list: `verdict::judge` puts it into the verdict, which C reads.
+    pub fn number(self) -> u8
+        ensures { result ≡ (refused_as (Err self)).number }
+    {
+        match self {
+            Unread::TooShort => 1,
+            Unread::Header => 2,
+            Unread::Length => 3,
+            Unread::Table(_) => 4,
+        }
+    }
+
+    // The rule's number with 4, else 0, as the verdict has it.
+    pub fn rule(self) -> u8
+        ensures { result ≡ (refused_as (Err self)).rule }
+    {
+        match self {
+            Unread::Table(rule) => rule.number(),
+            _ => 0,
+        }
+    }
 }
 
 // Whether a file is refused with 1 to 4, in this order.
-pub fn refused(file: &[u8]) -> Refusal
-    ensures { result ≡ refusal_of file.now }
+pub fn refused(file: &[u8]) -> Result<(), Unread>
+    ensures { refused_as result ≡ refusal_of file.now }
 {
-    let number = header(file);
-    if number != 0 {
-        return Refusal { number, rule: 0 };
-    }
-    let rule = table(file).broken_rule();
-    if rule != 0 {
-        return Refusal { number: 4, rule };
-    }
-    Refusal { number: 0, rule: 0 }
+    header(file)?;
+    table(file).admit()?;
+    Ok(())
 }
 
-// Refusal 1, 2 or 3, or 0.
-fn header(file: &[u8]) -> u8
-    ensures { result ≡ first (headed file.now) }
+// Refusal 1, 2 or 3.
+fn header(file: &[u8]) -> Result<(), Unread>
+    ensures { (refused_as result).number ≡ first (headed file.now) }
 {
     let len = file.len();
     if len < 12 {
-        return 1;
+        return Err(Unread::TooShort);
     }
     fields(
         len,
@@ -55,36 +89,39 @@ fn header(file: &[u8]) -> u8
 }
 
 // The same of a file of 12 bytes or more with these header fields.
-fn fields(len: usize, offset: usize, entries: usize, from: usize, count: usize) -> u8
+fn fields(
+    len: usize,
+    offset: usize,
+    entries: usize,
+    from: usize,
+    count: usize,
+) -> Result<(), Unread>
     requires { (12 ≤ len) × (entries < 65536) × (count < 4294967296) }
-    ensures { result ≡ first (headed_by len offset entries from count) }
+    ensures { (refused_as result).number ≡ first (headed_by len offset entries from count) }
 {
     if offset != 12 {
-        return 2;
+        return Err(Unread::Header);
     }
     if (entries != 0) & ((entries != 18) & (entries != 22)) {
-        return 2;
+        return Err(Unread::Header);
     }
     if from != 12 + 2 * entries {
-        return 2;
+        return Err(Unread::Header);
     }
     if most_records(entries) < count {
-        return 2;
+        return Err(Unread::Header);
     }
     if len != 12 + 2 * entries + 4 * count {
-        return 3;
+        return Err(Unread::Length);
     }
-    0
+    Ok(())
 }
 
 // The record maximum of a file with so many entries.
 fn most_records(entries: usize) -> usize
     ensures { result ≡ most_records entries }
 {
-    if entries == 22 {
-        return 16370;
-    }
-    16372
+    if entries == 22 { 16370 } else { 16372 }
 }
 
 // The table of any file: the twenty-two entries behind its header, or eighteen and four delays of 0, where the header says so and they
@@ -109,10 +146,8 @@ fn entries_at(file: &[u8], count: usize) -> [u16; 22]
     ensures { result ≡ sets (replicate 22 0) 0 (u16s_at file.now 12 count) }
 {
     let mut entries = [0u16; 22];
-    let mut i: usize = 0;
-    while i < count {
-        entries[i] = u16_at(file, 12 + 2 * i);
-        i += 1;
+    for (i, entry) in entries[..count].iter_mut().enumerate() {
+        *entry = u16_at(file, 12 + 2 * i);
     }
     entries
 }
@@ -121,11 +156,10 @@ fn entries_at(file: &[u8], count: usize) -> [u16; 22]
 pub fn records(file: &[u8]) -> &[u8]
     ensures { result.now ≡ record_bytes file.now }
 {
-    let number = refused(file).number;
-    if number != 0 {
-        return &file[..0];
+    match refused(file) {
+        Ok(()) => from_offset(file),
+        Err(_) => &file[..0],
     }
-    from_offset(file)
 }
 
 // What stands from a file's record offset on, whether it is refused or not; nothing where there is no such place.
@@ -143,16 +177,16 @@ pub fn from_offset(file: &[u8]) -> &[u8]
     &file[at..]
 }
 
-// What a record's four bytes mean: a step with its amount, or refusal 5 or 6.
+// What a record's four bytes mean: a step with its amount, or refusal 5 or 6. They are four numbers, as munasirel_advance is called.
 pub fn record(code: u8, middle: u8, low: u8, high: u8) -> Reading
     ensures { result ≡ record_of code middle low high }
 {
-    Step::of(code, middle, low as u32 + 256 * (high as u32))
+    Step::of(code, middle, u32::from(u16::from_le_bytes([low, high])))
 }
 
-// Refusal 5 or 6 of a record's four bytes, or 0.
+// Refusal 5 or 6 of a record's four bytes, or 0: a number of document 01's list, of which `record_refusal` of proofs/Refusals.antt speaks.
 pub fn record_refusal(code: u8, middle: u8, low: u8, high: u8) -> u8
     ensures { result ≡ refusal (record_of code middle low high) }
 {
-    refusal_of(code, middle, low as u32 + 256 * (high as u32))
+    refusal_of(code, middle, u32::from(u16::from_le_bytes([low, high])))
 }

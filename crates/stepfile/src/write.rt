@@ -1,46 +1,71 @@
 // Writing a step file into a lent buffer.
-ghost use Rattle.std.specs.Prelude.{◌≡◌, ℕ, ◌+◌, ◌*◌, ◌≤◌, ◌<◌, length, get_or, take};
+ghost use Rattle.std.specs.Prelude.{◌≡◌, ℕ, ◌+◌, ◌*◌, ◌≤◌, ◌<◌, length, get_or, take, MatchResult};
 ghost use Rattle.std.proofs.lemmas.List.Edits.{sets};
 ghost use Rattle.limits.specs.Limits.{entries};
 ghost use Rattle.numbers.specs.Bytes.{bytes_of};
-ghost use Rattle.stepfile.specs.Writing.{wished, entries_for, most_for, header_of, records_of, file_of, size_of, first_wrong, refused_with, written_of, buffer_after};
+ghost use Rattle.stepfile.specs.Writing.{wished, entries_for, most_for, header_of, records_of, file_of, size_of, first_wrong, Names, written_as, written_of, buffer_after};
 
 use crate::most_records;
-use limits::Table;
+use limits::{Rule, Table};
 use numbers::put;
-use shift::refusal_of;
+use shift::{Misread, Step};
 
-// The table to write, or the wish for none.
-#[derive(Clone, Copy)]
-pub enum Wish {
-    Given(Table),
-    NoTable,
+// Why no file is written: refusals 2 to 6 and 15.
+#[derive(Clone, Copy, PartialEq, Eq)]
+pub enum Unwritten {
+    // There are more records than a file with this table holds.
+    TooMany,
+    // The two lists differ in length.
+    Uneven,
+    // The table, with the first rule that it breaks.
+    Table(Rule),
+    // The first record that is no step, by its index, and why it is none.
+    Record(usize, Misread),
+    // The buffer is shorter than the file.
+    NoRoom,
 }
 
-// The file's length with number 0, or the number that refuses it: the rule with 4, the record's index with 5 and 6, else 0.
-#[derive(Clone, Copy)]
-pub struct Written {
-    pub number: u8,
-    pub rule: u8,
-    pub index: usize,
-    pub length: usize,
+impl From<Rule> for Unwritten {
+    ghost use Rattle.stepfile.specs.declared.write.Unwritten.{Unwritten};
+
+    ghost from_gives = { λ rule unwritten. unwritten ≡ Unwritten.Table rule };
+
+    fn from(rule: Rule) -> Unwritten {
+        Unwritten::Table(rule)
+    }
 }
 
-// The first record with 5 or 6 and its index; with number 0 there is none.
-#[derive(Clone, Copy)]
-pub struct Wrong {
-    pub number: u8,
-    pub index: usize,
-}
-
-impl Wish {
-    // The table that is written: the one given, or the new default.
-    fn table(self) -> Table
-        ensures { result ≡ wished self }
+impl Unwritten {
+    // A number of document 01's list: munasirel_write hands it to C.
+    pub fn number(self) -> u8
+        ensures { result ≡ (written_as (Err self)).number }
     {
         match self {
-            Wish::Given(table) => table,
-            Wish::NoTable => Table::new_default(),
+            Unwritten::TooMany => 2,
+            Unwritten::Uneven => 3,
+            Unwritten::Table(_) => 4,
+            Unwritten::Record(_, misread) => misread as u8,
+            Unwritten::NoRoom => 15,
+        }
+    }
+
+    // The rule's number with 4, else 0.
+    pub fn rule(self) -> u8
+        ensures { result ≡ (written_as (Err self)).rule }
+    {
+        match self {
+            Unwritten::Table(rule) => rule.number(),
+            _ => 0,
+        }
+    }
+
+    // The record's index with 5 and 6, else 0.
+    pub fn index(self) -> usize
+        ensures { result ≡ (written_as (Err self)).index }
+    {
+        match self {
+            Unwritten::Record(index, _) => index,
+            _ => 0,
         }
     }
 }
@@ -49,10 +74,7 @@ impl Wish {
 pub fn entries_for(table: Table) -> usize
     ensures { result ≡ length (entries_for table) }
 {
-    if table.is_undelayed() {
-        return 18;
-    }
-    22
+    if table.is_undelayed() { 18 } else { 22 }
 }
 
 // The record maximum of a file with this table, admitted or not, by how it would be written.
@@ -62,83 +84,65 @@ pub fn most_for(table: Table) -> usize
     most_records(entries_for(table))
 }
 
-// Writes the file at the start of `out`, or changes no byte: refusals 3, 2, 4, 5 or 6 at the first record with one, 15.
-pub fn write(wish: Wish, codes: &[u8], amounts: &[u32], out: &mut [u8]) -> Written
-    ensures value { result ≡ written_of (wished wish) codes.now amounts.now (length out.old) }
-    ensures out_after { out.new ≡ buffer_after (wished wish) codes.now amounts.now out.old }
+// Codes and amounts are two lists, as munasirel_write is lent them, and bound by no type: lists of two lengths are refused with 3.
+
+// Writes the file at the start of `out`, with the table that is given or with the new default, and answers its length, or changes no byte:
+// refusals 3, 2, 4, 5 or 6 at the first record with one, 15.
+pub fn write(
+    table: Option<Table>,
+    codes: &[u8],
+    amounts: &[u32],
+    out: &mut [u8],
+) -> Result<usize, Unwritten>
+    ensures value { written_as result ≡ written_of (wished table) codes.now amounts.now (length out.old) }
+    ensures out_after { out.new ≡ buffer_after (wished table) codes.now amounts.now out.old }
 {
-    write_with(wish.table(), codes, amounts, out)
+    write_with(
+        table.unwrap_or_else(Table::new_default),
+        codes,
+        amounts,
+        out,
+    )
 }
 
 // The same, with the table that is written.
-fn write_with(table: Table, codes: &[u8], amounts: &[u32], out: &mut [u8]) -> Written
-    ensures value { result ≡ written_of table codes.now amounts.now (length out.old) }
+fn write_with(
+    table: Table,
+    codes: &[u8],
+    amounts: &[u32],
+    out: &mut [u8],
+) -> Result<usize, Unwritten>
+    ensures value { written_as result ≡ written_of table codes.now amounts.now (length out.old) }
     ensures out_after { out.new ≡ buffer_after table codes.now amounts.now out.old }
 {
     let count = codes.len();
     if count != amounts.len() {
-        return refuse(3, 0, 0);
+        return Err(Unwritten::Uneven);
     }
     let entries = entries_for(table);
     if most_records(entries) < count {
-        return refuse(2, 0, 0);
+        return Err(Unwritten::TooMany);
     }
-    let rule = table.broken_rule();
-    if rule != 0 {
-        return refuse(4, rule, 0);
-    }
-    let wrong = first_wrong(codes, amounts);
-    let number = wrong.number;
-    let index = wrong.index;
-    if number != 0 {
-        return refuse(number, 0, index);
-    }
+    table.admit()?;
+    all_read(codes, amounts)?;
     let size = 12 + 2 * entries + 4 * count;
     if out.len() < size {
-        return refuse(15, 0, 0);
+        return Err(Unwritten::NoRoom);
     }
     put_file(out, table, codes, amounts);
-    Written {
-        number: 0,
-        rule: 0,
-        index: 0,
-        length: size,
-    }
+    Ok(size)
 }
 
-fn refuse(number: u8, rule: u8, index: usize) -> Written
-    ensures { result ≡ refused_with number rule index }
+// Whether each record is a step, up to the end of the shorter list; else the first that is none.
+fn all_read(codes: &[u8], amounts: &[u32]) -> Result<(), Unwritten>
+    ensures { MatchResult result (λ done. first_wrong 0 codes.now amounts.now ≡ record { number = 0; index = 0 }) (λ e. Names e (first_wrong 0 codes.now amounts.now)) }
 {
-    Written {
-        number,
-        rule,
-        index,
-        length: 0,
-    }
-}
-
-// The first record with 5 or 6, up to the end of the shorter list.
-fn first_wrong(codes: &[u8], amounts: &[u32]) -> Wrong
-    ensures { result ≡ first_wrong 0 codes.now amounts.now }
-{
-    let mut index: usize = 0;
-    while index < codes.len() {
-        if amounts.len() <= index {
-            return Wrong {
-                number: 0,
-                index: 0,
-            };
+    for (index, (&code, &amount)) in codes.iter().zip(amounts).enumerate() {
+        if let Err(misread) = Step::of(code, 0, amount) {
+            return Err(Unwritten::Record(index, misread));
         }
-        let number = refusal_of(codes[index], 0, amounts[index]);
-        if number != 0 {
-            return Wrong { number, index };
-        }
-        index += 1;
     }
-    Wrong {
-        number: 0,
-        index: 0,
-    }
+    Ok(())
 }
 
 // The whole file at the start of a buffer that has room for it; all other bytes stay.
@@ -172,11 +176,8 @@ fn put_table(out: &mut [u8], table: Table, count: usize)
     requires { count ≤ 22 }
     ensures { out.new ≡ sets out.old 12 (bytes_of (take count (entries table))) }
 {
-    let entries = table.entries();
-    let mut i: usize = 0;
-    while i < count {
-        put(out, 12 + 2 * i, entries[i]);
-        i += 1;
+    for (i, &entry) in table.entries()[..count].iter().enumerate() {
+        put(out, 12 + 2 * i, entry);
     }
 }
 
@@ -186,12 +187,8 @@ fn put_records(out: &mut [u8], at: usize, codes: &[u8], amounts: &[u32])
     requires by_index { (i : ℕ) → get_or amounts.now i 0 < 65536 }
     ensures { out.new ≡ sets out.old at (bytes_of (records_of codes.now amounts.now)) }
 {
-    let mut i: usize = 0;
-    let mut p = at;
-    while i < codes.len() {
-        put(out, p, codes[i] as u16);
-        put(out, p + 2, amounts[i] as u16);
-        i += 1;
-        p += 4;
+    for (i, (&code, &amount)) in codes.iter().zip(amounts).enumerate() {
+        put(out, at + 4 * i, code as u16);
+        put(out, at + 4 * i + 2, amount as u16);
     }
 }

@@ -12,7 +12,7 @@ use Rattle.checks.proofs.Ranges.{below}
 use Rattle.checks.proofs.Tests.{passed, left, right, both, neqb→ne}
 use Rattle.tablewords.specs.declared.Class.{Class}
 use Rattle.tablewords.specs.declared.Class.TheVariants.{Blank, Letter}
-use Rattle.tabletext.specs.declared.Said.TheVariants.{Entry}
+use Rattle.tabletext.specs.Answers.{Entry}
 use Rattle.tablewords.specs.Words.{comment, holds, leading, past, word, behind, digit, all_digits, value_from, capped, number_of}
 use Rattle.tablewords.specs.Names.{names, name, place, entry_named}
 use Rattle.tabletext.specs.Texts.{number_behind, line_of}

@@ -107,7 +107,7 @@ module _ (g : List ℕ) where
             each.shown (f 18 (omega arith) (omega arith), (f 19 (omega arith) (omega arith), (f 20 (omega arith) (omega arith), f 21 (omega arith) (omega arith))));
       }
 
-  wanted_fits : (18 ≤ wanted g) × (wanted g ≤ 22)
+  pub wanted_fits : (18 ≤ wanted g) × (wanted g ≤ 22)
   wanted_fits = case none_delayed (λ t. rw t (omega arith, omega arith)) (λ t. rw t (omega arith, omega arith))
 
   -- enough are given: what lines that say a table give, and nothing else

@@ -13,11 +13,11 @@ use borrow.Author.Tests.{le-leb, leb-true, leb-false, eqb-true, eqb-false, ne_eq
 use Rattle.checks.proofs.Tests.{case, passed, passes, left, right, both, eq→eqb, neqb→ne, Tests, nothing_to_test, most, equal, all_of, some_of}
 use Rattle.tablewords.specs.declared.Class.{Class}
 use Rattle.tablewords.specs.declared.Class.TheVariants.{Blank, Letter}
-use Rattle.tabletext.specs.declared.Said.{Said}
-use Rattle.tabletext.specs.declared.Said.TheVariants.{Nothing, Unnamed, Entry}
+use Rattle.tabletext.specs.Answers.{Said, Nothing, Unnamed, Entry}
 use Rattle.tablewords.specs.Words.{above, none, holds, leading, past, word, behind, all_digits, value_from, capped, number_of}
 use Rattle.tablewords.specs.Names.{names, name, same, place, entry_named}
 use Rattle.tabletext.specs.Texts.{number_behind, named, entry_in, line_of}
+use Rattle.tablewords.proofs.NameLaws.{place_fits}
 use Rattle.tabletext.specs.Form.{IsBlank, Blanks, OneLine, Comment, Digits, worth, Silent, Telling, Past, Naming, TooLarge}
 use Rattle.tabletext.proofs.FormLaws.{all, stops, leading_all, commented, no_word, blank_ends, named_line, line_says}
 
@@ -235,10 +235,6 @@ placed w (n ∷ ns) (suc i) e h =
 
     less : (k : ℕ) → suc k ≡ suc i → k ≡ i
     less k f = omega arith
-
-place_fits : (w : List ℕ) (ns : List (List ℕ)) → place w ns ≤ length ns
-place_fits w [] = omega arith
-place_fits w (n ∷ ns) = case (same w n) (λ t. rw t (omega arith)) (λ t. rw t (omega (arith, place_fits w ns)))
 
 -- ---- blanks stand between a word and the next
 empty : (l : List ℕ) → length l ≡ 0 → l ≡ []

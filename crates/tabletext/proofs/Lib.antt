@@ -1,4 +1,6 @@
+pub mod AnswerLaws
 pub mod GivenLaws
+pub mod SaidLaws
 pub mod LineLaws
 pub mod PrintLaws
 pub mod FormLaws

@@ -1,79 +1,111 @@
--- The lines of a text, one after the other: where each stands, and what reading the text makes of it.
+-- The lines of a text, as the text is cut at its line feeds, and what reading the text makes of one of them.
 -- Assumes nothing.
 use mathlib.Core.Path.{◌≡◌, refl, sym, ap, ◌∙◌}
-use mathlib.Core.Bool.{cond}
-use mathlib.Core.List.{List, [], ◌∷◌}
-use Prim.Native.Nat.{ℕ, suc, ◌+◌, ◌-◌, ◌≤◌, ◌<◌}
+use mathlib.Core.Bool.{true, false}
+use mathlib.Core.List.{List, [], ◌∷◌, map}
+use Prim.Native.Nat.{ℕ, suc, ◌≤◌, ◌<◌}
 use native.Mathlib.Omega.{arith}
-use lib.Dec.{leb, eqb, leb-suc-suc}
-use lib.ListN.{length, take, drop, length-drop}
-use lib.Seq.{drop-drop}
-use borrow.Author.Tests.{le-leb, lt-leb, leb-true, leb-false, eq-eqb, ne_eqb}
-use borrow.Author.Rules.{part_to_end}
+use lib.Dec.{eqb, ltb}
+use lib.ListN.{length, get_or, drop}
+use lib.Seq.{drop-cons}
+use borrow.Author.Tests.{eq-eqb, ne_eqb, lt-ltb}
+use Rattle.std.specs.List.{slice_split, onto_first}
+use Rattle.std.specs.Iterator.{Yields}
+use Rattle.std.specs.Prelude.{Option, Some, None, Result, Ok, Err}
+use Rattle.std.specs.Result.{OnOk, is_ok}
+use Rattle.std.proofs.lemmas.Iterator.{YieldsList}
+use Rattle.std.proofs.lemmas.Iterator.Consumers.{YieldsList-turn, YieldsList-end}
 use Rattle.checks.proofs.Tests.{case}
-use Rattle.tablewords.specs.declared.Class.TheVariants.{Inline}
-use Rattle.tabletext.specs.declared.Said.{Said}
-use Rattle.tablewords.specs.Words.{line_feed, leading}
-use Rattle.tabletext.specs.Texts.{onto, lines, line_of, fault_of, entry_in, with_line, wrong, read_from}
-use Rattle.tablewords.proofs.WordLaws.{take-leading, leading_fits}
+use Rattle.tablewords.specs.Words.{line_feed}
+use Rattle.tabletext.specs.Texts.{onto, lines, line_of, fault_of, entry_in, with_line, missing, wrong, or_zero, ended, read_from}
+use Rattle.tablewords.specs.Names.{an_entry}
+use Rattle.tablewords.proofs.NameLaws.{answered_entry}
+use Rattle.tabletext.specs.Answers.{Says}
+use Rattle.limits.specs.Limits.{table_of}
+use Rattle.std.proofs.lemmas.List.{drop_all}
 
--- the lines from a place on: of the place behind the last line feed there is one, of the next one none
-abbrev pub lines_at : ℕ → List ℕ → List (List ℕ)
-lines_at at text = cond (leb at (length text)) (lines (drop at text)) []
+onto_is : (b : ℕ) (ls : List (List ℕ)) → onto_first b ls ≡ onto b ls
+onto_is b [] = refl
+onto_is b (l ∷ ls) = refl
 
-first_line : (l : List ℕ) → lines l ≡ leading Inline l ∷ lines_at (suc (length (leading Inline l))) l
-first_line [] = refl
-first_line (b ∷ bs) =
+pub cut : (text : List ℕ) → slice_split (λ b. eqb b line_feed) text ≡ lines text
+cut [] = refl
+cut (b ∷ bs) =
     case (eqb b line_feed)
-    (λ e. rw (e, le-leb 1 (suc (length bs)) (omega arith)))
-    (λ e. rw (e, leb-suc-suc (suc (length (leading Inline bs))) (length bs)) (ap (onto b) (first_line bs)))
+    (λ e. rw e (ap (λ ls. [] ∷ ls) (cut bs)))
+    (λ e. rw e (ap (onto_first b) (cut bs) ∙ onto_is b (lines bs)))
 
-further_on : (at n : ℕ) (text : List ℕ) → at ≤ length text → lines_at n (drop at text) ≡ lines_at (at + n) text
-further_on at n text h =
-    let size = length-drop at text in
-    case (leb (at + n) (length text))
-    (λ e.
-    let l = leb-true (at + n) (length text) e in
-    rw (e, le-leb n (length (drop at text)) (omega (arith, size, l)), drop-drop n at text))
-    (λ e.
-    let l = leb-false (at + n) (length text) e in
-    rw (e, lt-leb n (length (drop at text)) (omega (arith, size, l))))
+onto_counts : (b : ℕ) (ls : List (List ℕ)) → length (onto b ls) ≤ suc (length ls)
+onto_counts b [] = omega arith
+onto_counts b (l ∷ ls) = omega arith
 
-module _
-    (text : List ℕ)
-    (at size : ℕ)
-    (h : at ≤ length text)
-    (s : size ≡ length (leading Inline (take (length text - at) (drop at text))))
+-- as many as the text has bytes, and one more
+pub few_lines : (text : List ℕ) → length (lines text) ≤ suc (length text)
+few_lines [] = omega arith
+few_lines (b ∷ bs) =
+    case (eqb b line_feed)
+    (λ e. rw e (omega (arith, few_lines bs)))
+    (λ e. rw e (omega (arith, few_lines bs, onto_counts b (lines bs))))
+
+-- ---- an answer that is one, and one that isn't
+pub when_ok : {T E P : Type 0} (r : Result T E) → is_ok r ≡ true → OnOk r P → P
+when_ok (Ok x) h p = p
+when_ok (Err e) h p = absurd (no h)
   where
-    spans : size ≡ length (leading Inline (drop at text))
-    spans = s ∙ ap (λ l. length (leading Inline l)) (part_to_end text at)
+    no : false ≡ true → ⊥
+    no h = cc
 
-    pub line_fits : at + size ≤ length text
-    line_fits = omega (arith, spans, length-drop at text, leading_fits Inline (drop at text))
+pub when_err : {T E : Type 0} (r : Result T E) → is_ok r ≡ false → (e : E) × (r ≡ Err e)
+when_err (Ok x) h = absurd (no h)
+  where
+    no : true ≡ false → ⊥
+    no h = cc
+when_err (Err e) h = (e, refl)
 
-    the_line : take (at + size - at) (drop at text) ≡ leading Inline (drop at text)
-    the_line = let one : at + size - at ≡ size = omega arith in rw (one, spans, take-leading Inline (drop at text))
+-- ---- the line that a loop over the cut text comes to, and its end
+module _
+    {S A B : Type 0}
+    {steps : S → Option A → S → Type 0}
+    {v : A → B}
+    {s : S}
+    {all : List B}
+    (xs : List A)
+    (t : S)
+    (y : Yields steps s xs t)
+    (r : Option A)
+    (u : S)
+    (q : steps t r u)
+  where
+    pub turn : (x : A) → r ≡ Some x → YieldsList steps v s all → (length xs < length all) × (v x ≡ get_or all (length xs) (v x))
+    turn x is e = YieldsList-turn e xs t y r u x is q
 
-    next : lines_at at text ≡ leading Inline (drop at text) ∷ lines_at (at + size + 1) text
-    next =
-        let sum : at + suc size ≡ at + size + 1 = omega arith in
-        rw (le-leb at (length text) h, ← sum, ← further_on at (suc size) text h, spans) (first_line (drop at text))
+    pub end : r ≡ None → YieldsList steps v s all → length xs ≡ length all
+    end is e = (YieldsList-end e xs t y r u is q).1
 
-    -- what the line says, behind n lines that gave these entries
-    module _ (n : ℕ) (given : List ℕ) (said : Said) (e : said ≡ line_of (take (at + size - at) (drop at text))) where
-      is_said : line_of (leading Inline (drop at text)) ≡ said
-      is_said = sym (e ∙ ap line_of the_line)
+-- ---- line n, behind as many that gave these entries
+module _ (n : ℕ) (given : List ℕ) (ls : List (List ℕ)) (line : List ℕ) (h : n < length ls) (e : line ≡ get_or ls n line) where
+  next : drop n ls ≡ line ∷ drop (suc n) ls
+  next = drop-cons ls n line h ∙ ap (λ l. l ∷ drop (suc n) ls) (sym e)
 
-      pub wrong_line : ¬ (fault_of given said ≡ 0) → read_from n given (lines_at at text) ≡ wrong (fault_of given said) (suc n) (entry_in said)
-      wrong_line f = rw (next, is_said, ne_eqb (fault_of given said) 0 f)
+  pub wrong_line : ¬ (fault_of given (line_of line) ≡ 0)
+      → read_from n given (drop n ls) ≡ wrong (fault_of given (line_of line)) (suc n) (entry_in (line_of line))
+  wrong_line f = rw (next, ne_eqb (fault_of given (line_of line)) 0 f)
 
-      pub good_line : fault_of given said ≡ 0
-          → read_from n given (lines_at at text) ≡ read_from (suc n) (with_line given said) (lines_at (at + size + 1) text)
-      good_line f = rw (next, is_said, eq-eqb (fault_of given said) 0 f)
+  pub good_line : fault_of given (line_of line) ≡ 0
+      → read_from n given (drop n ls) ≡ read_from (suc n) (with_line given (line_of line)) (drop (suc n) ls)
+  good_line f = rw (next, eq-eqb (fault_of given (line_of line)) 0 f)
 
--- behind the last line
-pub no_line : (at : ℕ) (text : List ℕ) → length text < at → lines_at at text ≡ []
-no_line at text h = rw (lt-leb at (length text) h)
+-- ---- behind the last line: an entry is missing, or none is
+pub no_more : (n : ℕ) (given : List ℕ) (ls : List (List ℕ)) → length ls ≤ n → read_from n given (drop n ls) ≡ ended n given
+no_more n given ls h = rw (drop_all n ls h)
 
-pub all_lines : (text : List ℕ) → lines text ≡ lines_at 0 text
-all_lines text = rw (le-leb 0 (length text) (omega arith))
+pub one_missing : (n : ℕ) (given : List ℕ) (i : ℕ) → an_entry (missing given) ≡ Some i → wrong 5 n i ≡ ended n given
+one_missing n given i h =
+    let is = answered_entry (missing given) i h in
+    rw (is.0, lt-ltb i 22 is.1)
+
+pub none_missing : (n : ℕ) (given : List ℕ) → an_entry (missing given) ≡ None → Says (table_of (map or_zero given)) ≡ ended n given
+none_missing n given h =
+    case (ltb (missing given) 22)
+    (λ e. let s = (rw e at h) in cc)
+    (λ e. rw e)

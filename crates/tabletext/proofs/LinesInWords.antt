@@ -14,8 +14,7 @@ use Rattle.checks.proofs.Checks.{first→holds}
 use Rattle.checks.proofs.Tests.{case, neqb→ne}
 use Rattle.tablewords.specs.declared.Class.TheVariants.{Inline}
 use Rattle.tablewords.specs.Words.{line_feed, above, capped}
-use Rattle.tabletext.specs.declared.Said.{Said}
-use Rattle.tabletext.specs.declared.Said.TheVariants.{Nothing, Unnamed, Entry}
+use Rattle.tabletext.specs.Answers.{Said, Nothing, Unnamed, Entry}
 use Rattle.tabletext.specs.Texts.{onto, lines, line_of, not_given, entry_checks, wrong, ended, read_from}
 use Rattle.tabletext.specs.Form.{OneLine, Telling, joined, OneLines, NotGiven, Gives, Giving, TooLarge, WrongEntry, WrongLine}
 use Rattle.tabletext.proofs.FormLaws.{all}

@@ -19,10 +19,10 @@ use Rattle.limits.specs.Limits.{limits, entries, table_of}
 use Rattle.limits.specs.Limits as table
 use Rattle.line.specs.Decimals.{decimal_of}
 use Rattle.line.specs.Lines.{field}
-use Rattle.line.specs.Laying.{laid, after}
+use Rattle.line.specs.Laying.{laid_in, laid, after}
 use Rattle.tablewords.specs.declared.Class.TheVariants.{Inline}
-use Rattle.tabletext.specs.declared.Said.TheVariants.{Entry}
-use Rattle.tabletext.specs.declared.Text.TheVariants.{Says}
+use Rattle.std.specs.Prelude.{Ok}
+use Rattle.tabletext.specs.Answers.{Entry, Says}
 use Rattle.tablewords.specs.Words.{line_feed, holds, digit, all_digits, value_from, capped}
 use Rattle.tablewords.specs.Names.{name}
 use Rattle.tabletext.specs.Texts.{onto, lines, line_of, not_given, nothing_given, entry_checks, absent_from, undelayed, wanted, missing, or_zero, ended, read_from, read_of}
@@ -30,6 +30,7 @@ use Rattle.stepfile.proofs.EntryLaws.{delays, in_eighteen, in_twenty_two, same_t
 use Rattle.tabletext.specs.Printed.{value_part, entry_line, lines_from, text_of}
 use Rattle.tabletext.proofs.lay.lay.Reads as lay_reads
 use Rattle.tabletext.proofs.read.Reads as read_reads
+use Rattle.tabletext.proofs.AnswerLaws.{same_answer}
 use Rattle.tabletext.proofs.FormLaws.{all, line_says}
 use Rattle.tabletext.proofs.DigitLaws.{are_digits, at_least_one, value_is}
 
@@ -185,10 +186,10 @@ laid_there text out z =
 -- ---- the same of the calls: what `lay` leaves in a buffer with room for it, `read` reads back
 module _ (κs : _) (a : _) (r : _) (left : _) (call : lay_reads.Post κs a r left) where
   pub lay_reads_back :
-      r.number ≡ 0 → Within16 (entries a.0) → (λs : _) (b : _) (x : _) (at : _) → read_reads.Post λs b x at
-      → b.0.now ≡ take r.length left.1.0.now → x ≡ Says a.0
+      (laid_in r).number ≡ 0 → Within16 (entries a.0) → (λs : _) (b : _) (x : _) (at : _) → read_reads.Post λs b x at
+      → b.0.now ≡ take (laid_in r).length left.1.0.now → x ≡ Ok a.0
   lay_reads_back z w λs b x at p e =
       let text = text_of a.0 in
       let out = a.1.0.now in
-      let there : take r.length left.1.0.now ≡ text = rw (call.1.0, call.1.1) (laid_there text out (rw call.1.0 at z)) in
-      p ∙ ap read_of (e ∙ there) ∙ printed_reads_back a.0 w
+      let there : take (laid_in r).length left.1.0.now ≡ text = rw (call.1.0, call.1.1) (laid_there text out (rw call.1.0 at z)) in
+      same_answer x (Ok a.0) (p ∙ ap read_of (e ∙ there) ∙ printed_reads_back a.0 w)

@@ -11,9 +11,10 @@ use borrow.Author.Tests.{ltb-true, ltb-false}
 use Rattle.checks.proofs.Tests.{case}
 use Rattle.limits.specs.declared.Table.{Table}
 use Rattle.limits.specs.Limits.{table_of}
-use Rattle.tabletext.specs.declared.Fault.{Fault}
-use Rattle.tabletext.specs.declared.Text.{Text}
-use Rattle.tabletext.specs.declared.Text.TheVariants.{Says, Wrong}
+use Rattle.std.specs.Prelude.{Ok, Err}
+use Rattle.tabletext.specs.declared.Fault as code
+use Rattle.tabletext.specs.Answers.{Fault, Text, Says, Wrong, fault_in, text_in}
+use Rattle.tabletext.proofs.AnswerLaws.{same_answer}
 use Rattle.tabletext.specs.Texts.{lines, nothing_given, absent_from, wanted, missing, or_zero, ended, read_from, read_of}
 use Rattle.tabletext.specs.Form.{Saying, WrongLine, WrongFirst}
 use Rattle.tabletext.proofs.RoundTrip.{says, none_missing}
@@ -145,9 +146,12 @@ a_text_that_is_wrong text f e =
 -- ---- of the contract of `read`: it answers a table exactly where the text says it, and a fault only where the text is wrong first
 pub read_in_words :
     (κs : _) (a : _) (r : _) (at : _) → read_reads.Post κs a r at
-    → ((t : Table) → (r ≡ Says t) ↔ Saying a.0.now t) × ((f : Fault) → r ≡ Wrong f → WrongFirst a.0.now f)
+    → ((t : Table) → (r ≡ Ok t) ↔ Saying a.0.now t) × ((f : code.Fault) → r ≡ Err f → WrongFirst a.0.now (fault_in f))
 read_in_words κs a r at p =
     let text = a.0.now in (
-      λ t. (λ e. a_text_that_is_read_says_the_table text t (sym p ∙ e), λ s. p ∙ a_text_that_says_a_table_is_read text t s),
-      λ f e. a_text_that_is_wrong text f (sym p ∙ e),
+      λ t. (
+        λ e. a_text_that_is_read_says_the_table text t (sym p ∙ ap text_in e),
+        λ s. same_answer r (Ok t) (p ∙ a_text_that_says_a_table_is_read text t s),
+      ),
+      λ f e. a_text_that_is_wrong text (fault_in f) (sym p ∙ ap text_in e),
     )

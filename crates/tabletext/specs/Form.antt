@@ -5,7 +5,7 @@ use Rattle.std.specs.Prelude.{◌≡◌, ◌⊎◌, List, [], ◌∷◌, ◌++�
 use Rattle.limits.specs.declared.Table.{Table}
 use Rattle.limits.specs.Limits.{entry}
 use Rattle.tablewords.specs.Names.{name}
-use Rattle.tabletext.specs.declared.Fault.{Fault}
+use Rattle.tabletext.specs.Answers.{Fault}
 
 -- a space, a tab or a carriage return, and each of them one
 abbrev pub IsBlank : ℕ → Type 0

@@ -1,3 +1,4 @@
+pub mod Answers
 pub mod Texts
 pub mod Form
 pub mod Printed

@@ -4,10 +4,7 @@
 use Rattle.std.specs.Prelude.{Bool, cond, ◌&&◌, List, [], ◌∷◌, map, ℕ, suc, leb, ltb, eqb, length, get_or, set, replicate}
 use Rattle.checks.specs.Checks.{Check, ◌!◌, first}
 use Rattle.limits.specs.Limits.{table_of}
-use Rattle.tabletext.specs.declared.Said.{Said}
-use Rattle.tabletext.specs.declared.Said.TheVariants.{Nothing, Unnamed, Entry}
-use Rattle.tabletext.specs.declared.Text.{Text}
-use Rattle.tabletext.specs.declared.Text.TheVariants.{Says, Wrong}
+use Rattle.tabletext.specs.Answers.{Said, Nothing, Unnamed, Entry, Text, Says, Wrong}
 use Rattle.tablewords.specs.Words.{line_feed, above, none, word, behind, number_of}
 use Rattle.tablewords.specs.Names.{entry_named}
 

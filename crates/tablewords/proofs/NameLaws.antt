@@ -1,50 +1,100 @@
--- Words that are the same, and the place of a word in a list: how a loop finds them.
+-- The names as the code holds them, and the place of a word among them.
 -- Assumes nothing.
-use mathlib.Core.Path.{◌≡◌, refl, ap}
-use mathlib.Core.Bool.{Bool, true, false, ◌&&◌}
-use mathlib.Core.List.{List, [], ◌∷◌, ◌++◌}
-use Prim.Native.Nat.{ℕ, zero, suc, ◌+◌, ◌≤◌, ◌<◌}
+use mathlib.Core.Path.{◌≡◌, refl, sym, ap, ◌∙◌}
+use mathlib.Core.Bool.{Bool, true, cond, ◌&&◌}
+use mathlib.Core.List.{List, [], ◌∷◌}
+use Prim.Native.Nat.{ℕ, zero, suc, ◌≤◌, ◌<◌}
 use native.Mathlib.Omega.{arith}
-use lib.Dec.{T, leb, eqb, leb→le}
-use lib.ListN.{length, get_or, take, drop, length-append}
-use lib.Seq.{drop-cons, drop-length, take-append_seam}
-use borrow.Author.Tests.{eq-eqb, ne_eqb}
+use lib.Dec.{T, leb, eqb, ltb, leb→le}
+use lib.ListN.{length, get_or}
+use borrow.Author.Tests.{ltb-true, ltb-false}
+use denote.Ref.{Bor}
+use Rattle.std.specs.Cmp.Lexicographic.{pointwise}
+use Rattle.std.specs.List.{position_or_len}
+use Rattle.std.specs.Option.{option_copied, unwrap_or}
+use Rattle.std.specs.Prelude.{Option, Some, None}
+use Rattle.std.specs.Slice.{IsItemAt}
+use Rattle.std.proofs.lemmas.Option.{slice_get_past, slice_get_read, unwrap_or-slice_get}
 use Rattle.checks.proofs.Tests.{case, left, right}
-use Rattle.io.specs.Counts.{IsPrefixLen}
-use Rattle.tablewords.specs.Names.{names, name, same, place}
+use Rattle.tablewords.specs.Names.{names, name, same, place, entry_named, an_entry, contents}
 
--- ---- two words
-pub unequal_lengths : (xs ys : List ℕ) → ¬ (length xs ≡ length ys) → same xs ys ≡ false
-unequal_lengths [] [] h = absurd (h refl)
-unequal_lengths [] (y ∷ ys) h = refl
-unequal_lengths (x ∷ xs) [] h = refl
-unequal_lengths (x ∷ xs) (y ∷ ys) h =
-    case (eqb x y) (λ e. rw (e, unequal_lengths xs ys (λ l. h (ap suc l)))) (λ e. rw e)
+-- ---- a list of lent lists
+content_at : (ns : List (Bor (List ℕ))) (i : ℕ) (d : Bor (List ℕ)) → (get_or ns i d).now ≡ get_or (contents ns) i d.now
+content_at [] i d = refl
+content_at (n ∷ ns) zero d = refl
+content_at (n ∷ ns) (suc i) d = content_at ns i d
 
-module _ (xs ys : List ℕ) (i : ℕ) where
-  pub equal_bytes : i < length xs → i < length ys → get_or xs i 0 ≡ get_or ys i 0
-      → same (drop i xs) (drop i ys) ≡ same (drop (suc i) xs) (drop (suc i) ys)
-  equal_bytes h k e = rw (drop-cons xs i 0 h, drop-cons ys i 0 k, eq-eqb (get_or xs i 0) (get_or ys i 0) e)
+pub content_read : (ns : List (Bor (List ℕ))) (i : ℕ) (r : Option (Bor (Bor (List ℕ)))) (d : Bor (List ℕ)) → IsItemAt ns i r
+    → (unwrap_or (option_copied r) d).now ≡ get_or (contents ns) i d.now
+content_read ns i None d h =
+    let past = slice_get_past ns i (ltb-false i (length ns) (sym h.0)) in
+    ap (λ o. (unwrap_or o d).now) (sym past) ∙ ap (λ n. n.now) (unwrap_or-slice_get ns i d) ∙ content_at ns i d
+content_read ns i (Some x) d h =
+    let read = slice_get_read ns (length ns) i x.now refl (ltb-true i (length ns) (sym h.0)) h.1 in
+    ap (λ o. (unwrap_or o d).now) (sym read) ∙ ap (λ n. n.now) (unwrap_or-slice_get ns i d) ∙ content_at ns i d
 
-  pub unequal_bytes : i < length xs → i < length ys → ¬ (get_or xs i 0 ≡ get_or ys i 0) → same (drop i xs) (drop i ys) ≡ false
-  unequal_bytes h k e = rw (drop-cons xs i 0 h, drop-cons ys i 0 k, ne_eqb (get_or xs i 0) (get_or ys i 0) e)
+-- ---- the same word, and its place
+same_is : (xs ys : List ℕ) → pointwise eqb xs ys ≡ same xs ys
+same_is [] [] = refl
+same_is [] (y ∷ ys) = refl
+same_is (x ∷ xs) [] = refl
+same_is (x ∷ xs) (y ∷ ys) = ap (λ r. eqb x y && r) (same_is xs ys)
 
-  pub both_ended : i ≡ length xs → i ≡ length ys → same (drop i xs) (drop i ys) ≡ true
-  both_ended e f = rw (rest xs e, rest ys f)
-    where
-      rest : (l : List ℕ) → i ≡ length l → drop i l ≡ []
-      rest l e = rw (e, drop-length l)
+place_is : (w : List ℕ) (ns : List (Bor (List ℕ)))
+    → position_or_len (λ (n : Bor (List ℕ)). pointwise eqb w n.now) ns ≡ place w (contents ns)
+place_is w [] = refl
+place_is w (n ∷ ns) =
+    rw (same_is w n.now, place_is w ns)
+    (case (same w n.now) (λ e. rw e) (λ e. rw e (omega arith)))
 
--- ---- a word in a list, from a place on
-module _ (w : List ℕ) (ns : List (List ℕ)) (i : ℕ) where
-  pub here : i < length ns → same w (get_or ns i []) ≡ true → i + place w (drop i ns) ≡ i
-  here h e = rw (drop-cons ns i [] h, e) (omega arith)
+same_length : (ns : List (Bor (List ℕ))) → length (contents ns) ≡ length ns
+same_length [] = refl
+same_length (n ∷ ns) = ap suc (same_length ns)
 
-  pub further : i < length ns → same w (get_or ns i []) ≡ false → i + place w (drop i ns) ≡ suc i + place w (drop (suc i) ns)
-  further h e = rw (drop-cons ns i [] h, e) (omega arith)
+-- what a search for a word among lent names answers
+abbrev answer : ℕ → ℕ → Option ℕ
+answer n i = cond (ltb i n) (Some i) None
 
-  pub nowhere : i ≡ length ns → i + place w (drop i ns) ≡ i
-  nowhere e = rw (e, drop-length ns) (omega arith)
+pub answered : (w : List ℕ) (ns : List (Bor (List ℕ))) → contents ns ≡ names
+    → answer (length ns) (position_or_len (λ (n : Bor (List ℕ)). pointwise eqb w n.now) ns) ≡ an_entry (entry_named w)
+unfolding entry_named
+answered w ns h =
+    ap (λ n. answer n (position_or_len (λ (n : Bor (List ℕ)). pointwise eqb w n.now) ns)) (sym (same_length ns) ∙ ap length h)
+    ∙ ap (answer 22) (place_is w ns ∙ ap (place w) h)
+
+-- ---- what an answer tells of the entry
+pub place_fits : (w : List ℕ) (ns : List (List ℕ)) → place w ns ≤ length ns
+place_fits w [] = omega arith
+place_fits w (n ∷ ns) = case (same w n) (λ t. rw t (omega arith)) (λ t. rw t (omega (arith, place_fits w ns)))
+
+entry_fits : (w : List ℕ) → entry_named w ≤ 22
+unfolding entry_named
+entry_fits w = place_fits w names
+
+pub answered_entry : (i e : ℕ) → an_entry i ≡ Some e → (i ≡ e) × (e < 22)
+answered_entry i e h =
+    case (ltb i 22)
+    (λ t.
+    let s = (rw t at h) in
+    let is : i ≡ e = cc in
+    (is, omega (arith, is, ltb-true i 22 t)))
+    (λ t. let s = (rw t at h) in cc)
+
+pub answered_nowhere : (w : List ℕ) → an_entry (entry_named w) ≡ None → entry_named w ≡ 22
+answered_nowhere w h =
+    case (ltb (entry_named w) 22)
+    (λ t. let s = (rw t at h) in cc)
+    (λ t. omega (arith, ltb-false (entry_named w) 22 t, entry_fits w))
+
+-- and it tells all of it: two words of one answer name one entry, or none
+pub no_other_entry : (w v : List ℕ) → an_entry (entry_named w) ≡ an_entry (entry_named v) → entry_named w ≡ entry_named v
+no_other_entry w v h =
+    case (ltb (entry_named w) 22)
+    (λ t. let s = (rw t at h) in sym (answered_entry (entry_named v) (entry_named w) (sym s)).0)
+    (λ t.
+    let s = (rw t at h) in
+    let high = answered_nowhere v (sym s) in
+    omega (arith, high, ltb-false (entry_named w) 22 t, entry_fits w))
 
 -- ---- a name has at most 21 bytes
 abbrev short : List (List ℕ) → Bool
@@ -58,15 +108,3 @@ all_short (n ∷ ns) h (suc i) = all_short ns (right (leb (length n) 21) (short 
 
 pub name_fits : (i : ℕ) → length (name i) ≤ 21
 name_fits = all_short names tt
-
--- ---- a name at the start of a space
-abbrev pub Laid : ℕ → ℕ → List ℕ → List ℕ → Type 0
-Laid i n space after = (n ≡ length (name i)) × (after ≡ name i ++ drop (length (name i)) space)
-
-pub laid_part : (i n : ℕ) (space after : List ℕ) → Laid i n space after → take n after ≡ name i
-laid_part i n space after h = rw (h.0, h.1) (take-append_seam (name i) (drop (length (name i)) space))
-
-pub counted : (i n : ℕ) (space after : List ℕ) → Laid i n space after → IsPrefixLen n after × Laid i n space after
-counted i n space after h =
-    let fits : n ≤ length after = rw h.1 (omega (arith, h.0, length-append (name i) (drop (length (name i)) space))) in
-    ((fits, rw (laid_part i n space after h) h.0), h)

@@ -1,6 +1,7 @@
 -- The names of the entries: the manual's, and document 01's for entries 11, 12 and 17.
 -- Assumes nothing.
-use Rattle.std.specs.Prelude.{Bool, true, false, cond, ◌&&◌, List, [], ◌∷◌, ℕ, suc, eqb, get_or}
+use Rattle.std.specs.Prelude.{Bool, true, false, cond, ◌&&◌, List, [], ◌∷◌, ℕ, suc, eqb, ltb, get_or, map, Option, Some, None}
+use denote.Ref.{Bor}
 use Rattle.line.specs.Ascii.{ascii}
 
 -- by entry number, 0 to 21
@@ -49,3 +50,11 @@ place w (n ∷ ns) = cond (same w n) 0 (suc (place w ns))
 -- the number of the entry that a word names, 22 where it names none
 unfoldable pub entry_named : List ℕ → ℕ
 entry_named w = place w names
+
+-- that number as it is answered: an entry, or none
+abbrev pub an_entry : ℕ → Option ℕ
+an_entry i = cond (ltb i 22) (Some i) None
+
+-- the words that a list of lent words lends
+abbrev pub contents : List (Bor (List ℕ)) → List (List ℕ)
+contents = map (λ n. n.now)

@@ -1,8 +1,10 @@
 -- A line of a text: its words, and the number that a word is.
 -- Assumes nothing.
-use Rattle.std.specs.Prelude.{Bool, true, not, cond, ◌&&◌, ◌||◌, List, [], ◌∷◌, ℕ, ◌+◌, ◌-◌, ◌*◌, leb, eqb, length}
+use Rattle.std.specs.Prelude.{Bool, true, false, not, cond, ◌&&◌, ◌||◌, List, [], ◌∷◌, ℕ, ◌+◌, ◌-◌, ◌*◌, ◌≤◌, ◌<◌, leb, eqb, length, get_or, Option, Some, None, Result, Ok, Err}
 use Rattle.tablewords.specs.declared.Class.{Class}
 use Rattle.tablewords.specs.declared.Class.TheVariants.{Blank, Letter, Inline}
+use Rattle.tablewords.specs.declared.NoNumber.{NoNumber}
+use Rattle.tablewords.specs.declared.NoNumber.TheVariants.{Above, NotDigits}
 
 -- ---- the bytes of a text: space, tab and carriage return are blanks; a line feed ends a line, and # begins a comment; every other byte
 -- stands in a word
@@ -28,6 +30,12 @@ leading c (b ∷ bs) = cond (holds c b) (b ∷ leading c bs) []
 abbrev pub past : Class → List ℕ → List ℕ
 past c [] = []
 past c (b ∷ bs) = cond (holds c b) (past c bs) (b ∷ bs)
+
+-- so many first bytes of a list: a test answers true of each of them, and false of the next one, where there is one
+pub record Run (answers : ℕ → Bool → Type 0) (l : List ℕ) (n : ℕ) : Type 0 where
+  pub within : n ≤ length l
+  pub held : (i : ℕ) → i < n → answers (get_or l i 0) true
+  pub ended : n < length l → answers (get_or l n 0) false
 
 -- ---- the first word of a line, none where the line or its comment comes first, and what stands behind it
 abbrev pub word : List ℕ → List ℕ
@@ -60,3 +68,11 @@ capped v = cond (leb v 65535) v above
 
 abbrev pub number_of : List ℕ → ℕ
 number_of w = cond (eqb (length w) 0) none (cond (all_digits w) (capped (value_from 0 w)) none)
+
+-- what is answered of that number: itself, or why there is none
+abbrev pub as_number : ℕ → Result ℕ NoNumber
+as_number v = cond (leb v 65535) (Ok v) (cond (eqb v above) (Err Above) (Err NotDigits))
+
+-- a value that 16 bits hold
+abbrev pub fitting : ℕ → Option ℕ
+fitting v = cond (leb v 65535) (Some v) None

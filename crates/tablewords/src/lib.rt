@@ -1,130 +1,104 @@
 // The words of a line of a table's text, and the number that a word is; which entry it names is in names.rt.
 #![tactic(auto)]
 
-ghost use Rattle.std.specs.Prelude.{◌≡◌, ◌+◌, ◌-◌, ◌*◌, ◌≤◌, length, take, drop};
-ghost use Rattle.tablewords.specs.Words.{blank, holds, leading, word, behind, digit, capped, number_of};
+ghost use Rattle.std.specs.Prelude.{◌≡◌, ◌+◌, ◌*◌, length};
+ghost use Rattle.tablewords.specs.Words.{Run, holds, leading, word, behind, fitting, number_of, as_number};
 
 pub mod names;
 
-// What stands for a number above 65,535, and for none.
-pub const ABOVE: u32 = 65536;
-
-pub const NONE: u32 = 65537;
+// Why a word is no number of 16 bits: it is above 65,535, or it isn't of digits alone.
+#[derive(Clone, Copy, Debug, PartialEq, Eq)]
+pub enum NoNumber {
+    Above,
+    NotDigits,
+}
 
 // Which bytes a run is made of: blanks, those of words, or those of a line.
-#[derive(Clone, Copy)]
+#[derive(Clone, Copy, Debug, PartialEq, Eq)]
 pub enum Class {
     Blank,
     Letter,
     Inline,
 }
 
-impl Class {
-    fn holds(self, byte: u8) -> bool
-        ensures { result ≡ holds self byte }
-    {
-        match self {
-            Class::Blank => is_blank(byte),
-            Class::Letter => !is_blank(byte) & ((byte != 10) & (byte != 35)),
-            Class::Inline => byte != 10,
-        }
-    }
-}
-
-fn is_blank(byte: u8) -> bool
-    ensures { result ≡ blank byte }
-{
-    (byte == 32) | ((byte == 9) | (byte == 13))
-}
-
-// How many first bytes are of a class.
+// How many first bytes are of a class. A public function asks nothing of its caller (docs/PROMISES.md lists this one), and one that takes
+// a test asks that the test can be called: so the class is named here, and `leading` takes the test.
 pub fn run(text: &[u8], class: Class) -> usize
     ensures { result ≡ length (leading class text.now) }
 {
-    let mut at: usize = 0;
-    while at < text.len() {
-        if !class.holds(text[at]) {
-            return at;
-        }
-        at += 1;
+    match class {
+        Class::Blank => leading(text, is_blank),
+        Class::Letter => leading(text, is_letter),
+        Class::Inline => leading(text, |byte| byte != b'\n'),
     }
-    at
 }
 
-// A part of a line, from a place up to another.
-#[derive(Clone, Copy)]
-struct Span {
-    from: usize,
-    to: usize,
-}
-
-// Where the first word of a line stands, at the end of what has none.
-fn first_word(line: &[u8]) -> Span
-    ensures from_le_to { (result.from ≤ result.to) × (result.to ≤ length line.now) }
-    ensures line_value { take (result.to - result.from) (drop result.from line.now) ≡ word line.now }
-    ensures line_value_2 { drop result.to line.now ≡ behind line.now }
+// How many first bytes a test holds of.
+fn leading<F: Fn(u8) -> bool>(text: &[u8], test: F) -> usize
+    requires { F.IsAlwaysCallable test }
+    ensures { Run (F.post test) text.now result }
 {
-    let from = run(line, Class::Blank);
-    let size = run(&line[from..], Class::Letter);
-    Span {
-        from,
-        to: from + size,
-    }
+    text.iter()
+        .position(|byte| !test(*byte))
+        .unwrap_or(text.len())
 }
 
-// The first word of a line; none where the line ends, or its comment begins, before there is one.
+// Space, tab or carriage return.
+fn is_blank(byte: u8) -> bool
+    ensures { result ≡ holds Class.Blank byte }
+{
+    matches!(byte, b' ' | b'\t' | b'\r')
+}
+
+// A byte of a word: no blank, no line feed, and no # of a comment.
+fn is_letter(byte: u8) -> bool
+    ensures { result ≡ holds Class.Letter byte }
+{
+    !is_blank(byte) && byte != b'\n' && byte != b'#'
+}
+
+// The first word of a line, and what stands behind it; no word where the line ends, or its comment begins, before there is one.
+pub fn first_word(line: &[u8]) -> (&[u8], &[u8])
+    ensures word { result.0.now ≡ word line.now }
+    ensures behind { result.1.now ≡ behind line.now }
+{
+    let from = leading(line, is_blank);
+    let text = &line[from..];
+    let size = leading(text, is_letter);
+    text.split_at(size)
+}
+
+// The first of the two.
 pub fn word(line: &[u8]) -> &[u8]
     ensures { result.now ≡ word line.now }
 {
-    let first = first_word(line);
-    let from = first.from;
-    let to = first.to;
-    &line[from..to]
+    first_word(line).0
 }
 
-// What stands behind the first word of a line.
+// The second.
 pub fn behind(line: &[u8]) -> &[u8]
     ensures { result.now ≡ behind line.now }
 {
-    let first = first_word(line);
-    let to = first.to;
-    &line[to..]
+    first_word(line).1
 }
 
-// The number that a word is, or `ABOVE`, or `NONE`.
-pub fn number_of(word: &[u8]) -> u32
-    ensures { result ≡ number_of word.now }
+// The number that a word is.
+pub fn number_of(word: &[u8]) -> Result<u16, NoNumber>
+    ensures { result ≡ as_number (number_of word.now) }
 {
-    if word.len() == 0 {
-        return NONE;
+    if word.is_empty() || !word.iter().all(|byte| byte.is_ascii_digit()) {
+        return Err(NoNumber::NotDigits);
     }
-    let mut value: u32 = 0;
-    let mut i: usize = 0;
-    while i < word.len() {
-        let byte = word[i];
-        if !is_digit(byte) {
-            return NONE;
-        }
-        value = with_digit(value, byte);
-        i += 1;
+    let mut value: u16 = 0;
+    for byte in word {
+        value = with_digit(value, *byte - b'0').ok_or(NoNumber::Above)?;
     }
-    value
+    Ok(value)
 }
 
-fn is_digit(byte: u8) -> bool
-    ensures { result ≡ digit byte }
+// A value with one digit more, where 16 bits hold it.
+fn with_digit(value: u16, digit: u8) -> Option<u16>
+    ensures { result ≡ fitting (value * 10 + digit) }
 {
-    (48 <= byte) & (byte <= 57)
-}
-
-// A value with one digit more.
-fn with_digit(value: u32, byte: u8) -> u32
-    requires { (value ≤ 65536) × (48 ≤ byte) }
-    ensures { result ≡ capped (value * 10 + (byte - 48)) }
-{
-    let longer = 10 * value + (byte as u32 - 48);
-    if longer < ABOVE {
-        return longer;
-    }
-    ABOVE
+    value.checked_mul(10)?.checked_add(u16::from(digit))
 }

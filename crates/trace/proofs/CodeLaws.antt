@@ -5,11 +5,12 @@ use mathlib.Core.Bool.{Bool, true, false, cond, ◌&&◌}
 use Prim.Native.Nat.{ℕ, zero, suc}
 use native.Mathlib.Omega.{arith}
 use lib.Dec.{leb, eqb, eqb→eq}
+use Rattle.std.specs.Prelude.{Ok, Err}
 use Rattle.checks.proofs.Tests.{passes, right}
 use Rattle.shift.specs.declared.Step.{Step}
 use Rattle.shift.specs.declared.Step.TheVariants.{FromNeutral, GearToGear, ToNeutral, Deliver, DeviceGood, DeviceFailed, EngineWaits, Take, AskClutch, RaiseError, Finish, Tick, Reset}
-use Rattle.shift.specs.declared.Reading.{Reading}
-use Rattle.shift.specs.declared.Reading.TheVariants.{Means, WrongCode, WrongAmount}
+use Rattle.shift.specs.Readings.{Reading}
+use Rattle.shift.specs.declared.Misread.TheVariants.{WrongCode, WrongAmount}
 use Rattle.shift.specs.Answers.{reading, plain, ticking}
 
 abbrev pub code_of : Step → ℕ
@@ -44,34 +45,34 @@ amount_of Reset = 0
 
 -- the step of a reading, and one where there is none
 abbrev meant : Reading → Step
-meant (Means x) = x
-meant WrongCode = Reset
-meant WrongAmount = Reset
+meant (Ok x) = x
+meant (Err WrongCode) = Reset
+meant (Err WrongAmount) = Reset
 
 module _ (m n : ℕ) (x : Step) where
   abbrev Own : ℕ → Type 0
   Own code = (code_of x ≡ code) × (amount_of x ≡ n)
 
-  none : {A : Type 0} → WrongCode ≡ Means x → A
+  none : {A : Type 0} → ◌≡◌ {A = Reading} (Err WrongCode) (Ok x) → A
   none e = let z : ◌≡◌ {A = ℕ} 0 1 = cc in absurd (omega arith)
 
-  chosen : (q : Bool) (s : Step) → cond q (Means s) WrongAmount ≡ Means x → (q ≡ true) × (s ≡ x)
+  chosen : (q : Bool) (s : Step) → cond {A = Reading} q (Ok s) (Err WrongAmount) ≡ Ok x → (q ≡ true) × (s ≡ x)
   chosen true s e = (refl, ap meant e)
   chosen false s e = let z : ◌≡◌ {A = ℕ} 0 1 = cc in absurd (omega arith)
 
-  plainly : (s : Step) → amount_of s ≡ 0 → plain s m n ≡ Means x → Own (code_of s)
+  plainly : (s : Step) → amount_of s ≡ 0 → plain s m n ≡ Ok x → Own (code_of s)
   plainly s z e =
       let c = chosen (eqb m 0 && eqb n 0) s e in
       let w = eqb→eq n 0 (right (eqb m 0) (eqb n 0) (passes (eqb m 0 && eqb n 0) c.0)) in
       let a = ap amount_of c.1 in
       (ap code_of (sym c.1), omega arith)
 
-  ticks : ticking m n ≡ Means x → Own 12
+  ticks : ticking m n ≡ Ok x → Own 12
   ticks e =
       let c = chosen (eqb m 0 && (leb 1 n && leb n 65535)) (Tick n) e in
       (ap code_of (sym c.1), ap amount_of (sym c.1))
 
-  pub its_own : (code : ℕ) → reading code m n ≡ Means x → Own code
+  pub its_own : (code : ℕ) → reading code m n ≡ Ok x → Own code
   its_own zero e = none e
   its_own (suc zero) e = plainly FromNeutral refl e
   its_own (suc (suc zero)) e = plainly GearToGear refl e

@@ -6,6 +6,7 @@ use mathlib.Core.List.{List, [], ◌∷◌}
 use Prim.Native.Nat.{ℕ, ◌≤◌}
 use native.Mathlib.Omega.{arith}
 use lib.Dec.{T, leb, eqb}
+use Rattle.std.specs.Prelude.{Ok, Err}
 use Rattle.checks.proofs.Checks.{Holds}
 use Rattle.checks.proofs.Tests.{tests, both}
 use Rattle.limits.specs.declared.Table.{Table}
@@ -14,15 +15,15 @@ use Rattle.phases.proofs.PhaseLaws.{unfinished_in, ordered}
 use Rattle.shift.specs.declared.State.{State}
 use Rattle.shift.specs.declared.Step.{Step}
 use Rattle.shift.specs.declared.Step.TheVariants.{FromNeutral, GearToGear, ToNeutral, Deliver, DeviceGood, DeviceFailed, EngineWaits, Take, AskClutch, RaiseError, Finish, Tick, Reset}
-use Rattle.shift.specs.declared.Reading.{Reading}
-use Rattle.shift.specs.declared.Reading.TheVariants.{Means, WrongCode, WrongAmount}
+use Rattle.shift.specs.Readings.{Reading}
+use Rattle.shift.specs.declared.Misread.TheVariants.{WrongCode, WrongAmount}
 use Rattle.shift.specs.Answers.{checks, guard, led, excess}
 use Rattle.shift.specs.Runs.{run}
 use Rattle.promises.proofs.Runs.{checked, went_on}
 use Rattle.trace.specs.Traces.{Trace, trace_of, stepped, after}
 
 -- ---- projection
-pub projects_step : (s : State) (x : Step) → trace_of (led s (Means x)) ≡ stepped (trace_of s) x
+pub projects_step : (s : State) (x : Step) → trace_of (led s (Ok x)) ≡ stepped (trace_of s) x
 projects_step s FromNeutral = refl
 projects_step s GearToGear = refl
 projects_step s ToNeutral = refl
@@ -38,9 +39,9 @@ projects_step s (Tick n) = refl
 projects_step s Reset = refl
 
 pub projects : (s : State) (r : Reading) → trace_of (led s r) ≡ after (trace_of s) r
-projects s (Means x) = projects_step s x
-projects s WrongCode = refl
-projects s WrongAmount = refl
+projects s (Ok x) = projects_step s x
+projects s (Err WrongCode) = refl
+projects s (Err WrongAmount) = refl
 
 -- ---- an accepted list
 -- the phases in which a step can be accepted at all
@@ -62,14 +63,14 @@ allowed_in p Reset = eqb p error
 -- each record of a list is a step that its phase can accept, and the clock stays within 32 bits
 abbrev pub Sound : Trace → List Reading → Type 0
 Sound t [] = Unit {0}
-Sound t (Means x ∷ rs) = T (allowed_in t.phase x) × ((stepped t x).clock ≤ 4294967295) × Sound (stepped t x) rs
-Sound t (WrongCode ∷ rs) = ⊥
-Sound t (WrongAmount ∷ rs) = ⊥
+Sound t (Ok x ∷ rs) = T (allowed_in t.phase x) × ((stepped t x).clock ≤ 4294967295) × Sound (stepped t x) rs
+Sound t (Err WrongCode ∷ rs) = ⊥
+Sound t (Err WrongAmount ∷ rs) = ⊥
 
 running : (p : ℕ) → T (leb 1 p) → T (leb p 21) → T (unfinished p)
 running p a b = both (leb 1 p) (leb p 21) a b
 
-allowed_step : (t : Table) (s : State) (x : Step) → Holds (checks t s (Means x)) → T (allowed_in s.phase x)
+allowed_step : (t : Table) (s : State) (x : Step) → Holds (checks t s (Ok x)) → T (allowed_in s.phase x)
 allowed_step t s FromNeutral h = h.1.1.1.0
 allowed_step t s GearToGear h = h.1.1.1.0
 allowed_step t s ToNeutral h = h.1.1.1.0
@@ -90,7 +91,7 @@ allowed_step t s Finish h = h.1.1.1.0
 allowed_step t s (Tick n) h = tt
 allowed_step t s Reset h = h.1.1.1.0
 
-clocked_step : (t : Table) (s : State) (x : Step) → Holds (checks t s (Means x)) → s.clock ≤ 4294967295 → (stepped (trace_of s) x).clock ≤ 4294967295
+clocked_step : (t : Table) (s : State) (x : Step) → Holds (checks t s (Ok x)) → s.clock ≤ 4294967295 → (stepped (trace_of s) x).clock ≤ 4294967295
 clocked_step t s FromNeutral h c = c
 clocked_step t s GearToGear h c = c
 clocked_step t s ToNeutral h c = c
@@ -108,11 +109,11 @@ clocked_step t s Reset h c = c
 pub accepted_sound :
     (t : Table) (s : State) (rs : List Reading) → s.clock ≤ 4294967295 → (run t s rs).number ≡ 0 → Sound (trace_of s) rs
 accepted_sound t s [] c e = tt
-accepted_sound t s (Means x ∷ rs) c e =
-    let w = went_on (guard t s (Means x)) (excess t s (Means x) (guard t s (Means x))) s (run t (led s (Means x)) rs) e in
+accepted_sound t s (Ok x ∷ rs) c e =
+    let w = went_on (guard t s (Ok x)) (excess t s (Ok x) (guard t s (Ok x))) s (run t (led s (Ok x)) rs) e in
     let h = checked t s x w.0 in
     let k = clocked_step t s x h c in
     let same = projects_step s x in
-    (allowed_step t s x h, k, subst (λ q. Sound q rs) same (accepted_sound t (led s (Means x)) rs (subst (λ (q : Trace). q.clock ≤ 4294967295) (sym same) k) w.1))
-accepted_sound t s (WrongCode ∷ rs) c e = let w = went_on (guard t s WrongCode) (excess t s WrongCode (guard t s WrongCode)) s (run t (led s WrongCode) rs) e in absurd (omega arith)
-accepted_sound t s (WrongAmount ∷ rs) c e = let w = went_on (guard t s WrongAmount) (excess t s WrongAmount (guard t s WrongAmount)) s (run t (led s WrongAmount) rs) e in absurd (omega arith)
+    (allowed_step t s x h, k, subst (λ q. Sound q rs) same (accepted_sound t (led s (Ok x)) rs (subst (λ (q : Trace). q.clock ≤ 4294967295) (sym same) k) w.1))
+accepted_sound t s (Err WrongCode ∷ rs) c e = let w = went_on (guard t s (Err WrongCode)) (excess t s (Err WrongCode) (guard t s (Err WrongCode))) s (run t (led s (Err WrongCode)) rs) e in absurd (omega arith)
+accepted_sound t s (Err WrongAmount ∷ rs) c e = let w = went_on (guard t s (Err WrongAmount)) (excess t s (Err WrongAmount) (guard t s (Err WrongAmount))) s (run t (led s (Err WrongAmount)) rs) e in absurd (omega arith)

@@ -1,13 +1,13 @@
 -- What clock and phase of a state become by a step, and by a record's code and amount: whatever else the state holds, and whatever the
 -- table says. For functions that follow accepted records; `projects` of proofs/TraceLaws.antt ties it to the effects of shift/specs/Steps.antt.
 -- Assumes nothing.
-use Rattle.std.specs.Prelude.{List, [], ◌∷◌, ℕ, ◌+◌, get_or}
+use Rattle.std.specs.Prelude.{List, [], ◌∷◌, ℕ, ◌+◌, get_or, Ok, Err}
 use Rattle.phases.specs.Phases.{at_rest, error, next_of, clutch_of}
 use Rattle.shift.specs.declared.State.{State}
 use Rattle.shift.specs.declared.Step.{Step}
 use Rattle.shift.specs.declared.Step.TheVariants.{FromNeutral, GearToGear, ToNeutral, Deliver, DeviceGood, DeviceFailed, EngineWaits, Take, AskClutch, RaiseError, Finish, Tick, Reset}
-use Rattle.shift.specs.declared.Reading.{Reading}
-use Rattle.shift.specs.declared.Reading.TheVariants.{Means, WrongCode, WrongAmount}
+use Rattle.shift.specs.Readings.{Reading}
+use Rattle.shift.specs.declared.Misread.TheVariants.{WrongCode, WrongAmount}
 
 pub record Trace : Type 0 where
   pub clock : ℕ
@@ -37,9 +37,9 @@ stepped t Reset = entering at_rest t
 
 -- by what was read of a record, and by a list of them
 abbrev pub after : Trace → Reading → Trace
-after t (Means x) = stepped t x
-after t WrongCode = t
-after t WrongAmount = t
+after t (Ok x) = stepped t x
+after t (Err WrongCode) = t
+after t (Err WrongAmount) = t
 
 abbrev pub traced : Trace → List Reading → Trace
 traced t [] = t

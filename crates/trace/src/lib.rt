@@ -6,7 +6,8 @@ ghost use Rattle.trace.specs.Traces.{phase_by};
 
 use phases::{clutch_of, next_of};
 
-// The phase after a step with this code; what is no step's code leaves it.
+// The phase after a step with this code; what is no step's code leaves it. The code is a number and no `Step`: who follows accepted records
+// by it, as the list of shifts does, has read no amount, and an arm for each code is the list that `phase_by` has.
 pub fn phase_after(phase: u8, code: u8) -> u8
     ensures { result ≡ phase_by phase code }
 {

@@ -1,18 +1,30 @@
 -- Laws of one join: when a part is refused and when it is accepted, and what each leaves.
 -- Assumes nothing.
-use mathlib.Core.Path.{◌≡◌, sym}
-use mathlib.Core.Bool.{true, false}
-use mathlib.Core.List.{List, ◌++◌, append_assoc, append-nil}
-use Prim.Native.Nat.{ℕ, ◌+◌, ◌-◌, ◌≤◌, ◌<◌}
+use mathlib.Core.Path.{◌≡◌, refl, sym, ap}
+use mathlib.Core.Bool.{Bool, true, false, ◌&&◌}
+use mathlib.Core.List.{List, [], ◌∷◌, ◌++◌, append_assoc, append-nil}
+use Prim.Native.Nat.{ℕ, ◌+◌, ◌-◌, ◌≤◌, ◌<◌, min}
 use native.Mathlib.Nat.{max-eq_left}
+use native.Mathlib.Numerals.{unary_clauses}
 use native.Mathlib.Omega.{arith}
 use lib.Dec.{eqb}
+use lib.Pointwise.{pointwise}
+use Rattle.std.specs.Prelude.{nat_eq}
 use lib.ListN.{length, take, drop, length-append, length-take, length-drop, take-append-drop, drop_of_length-le}
 use lib.Seq.{take_at, drop_at, length-take-le, take_all, drop-drop}
 use borrow.Rule.Slice.PartMut.{put_mid}
 use Rattle.checks.proofs.Checks.{Fails, number_at, refused, holds→first}
 use Rattle.checks.proofs.Tests.{tests, passes}
 use Rattle.transfer.specs.Join.{agree, checks, refusal, new_count, appended, joined, buffer_after}
+
+-- two lists agree where their beginnings of one length, as long as both reach, are the same
+pub agree_beginnings :
+    (xs ys : List ℕ)
+    → pointwise nat_eq (take (min (length xs) (length ys)) xs) (take (min (length xs) (length ys)) ys) ≡ agree xs ys
+agree_beginnings [] [] = refl
+agree_beginnings [] (y ∷ ys) = simp unary_clauses
+agree_beginnings (x ∷ xs) [] = simp unary_clauses
+agree_beginnings (x ∷ xs) (y ∷ ys) = simp unary_clauses (ap (λ (b : Bool). eqb x y && b) (agree_beginnings xs ys))
 
 -- the part of a slice from `n` on, as lending it leaves it
 abbrev pub from : ℕ → List ℕ → List ℕ
@@ -79,32 +91,16 @@ module _ (buffer : List ℕ) (held offset : ℕ) (part : List ℕ) where
       → (record { number = 0; held = held } ≡ joined buffer held offset part) × (buffer ≡ buffer_after buffer held offset part)
   inside l h e = (rw (e, count_inside h), rw (e, appended_inside l h))
 
-  -- a part that ends beyond them: its rest is copied into what is lent of the buffer, from the bytes held on
-  module _ (l : offset ≤ held) (k : held - offset < length part) (fits : offset + length part ≤ length buffer) where
-    count_rest : new_count held offset part ≡ held + length (drop (held - offset) part)
-    count_rest = simp length-drop (omega arith)
-
-    module _ (lent : List ℕ)
-        (copied :
-        lent
-        ≡ take (length (from held buffer)) (from (held - offset) part)
-        ++ drop (length (from (held - offset) part)) (from held buffer)) where
-      appended_rest : put_mid held (length buffer - held) buffer lent ≡ appended buffer held offset part
-      appended_rest =
-          rw (
-            copied,
-            from_is (held - offset) part,
-            from_is held buffer,
-            take_all (length (drop held buffer)) (drop (held - offset) part) (simp length-drop (omega arith)),
-            drop-drop (length (drop (held - offset) part)) held buffer,
-            ← count_rest,
-            drop_of_length-le (drop held buffer) {i = length buffer - held} (simp length-drop (omega arith)),
-            append-nil (drop (held - offset) part ++ drop (new_count held offset part) buffer),
-          )
-          (sym (append_assoc (take held buffer) (drop (held - offset) part) (drop (new_count held offset part) buffer)))
-
-      pub beyond :
-          refusal buffer held offset part ≡ 0
-          → (record { number = 0; held = offset + length part } ≡ joined buffer held offset part)
-          × (put_mid held (length buffer - held) buffer lent ≡ buffer_after buffer held offset part)
-      beyond e = let end : new_count held offset part ≡ offset + length part = omega arith in (rw (e, end), rw e appended_rest)
+  -- a part that ends beyond them: its rest is copied behind them
+  pub beyond :
+      offset ≤ held → held < offset + length part → refusal buffer held offset part ≡ 0
+      → (lent : List ℕ) → lent ≡ from (held - offset) part
+      → (record { number = 0; held = offset + length part } ≡ joined buffer held offset part)
+      × (put_mid held (offset + length part - held) buffer lent ≡ buffer_after buffer held offset part)
+  beyond l k e lent copied =
+      let end : new_count held offset part ≡ offset + length part = omega arith in
+      let behind : held + (offset + length part - held) ≡ offset + length part = omega arith in (
+        rw (e, end),
+        rw (e, end, copied, from_is (held - offset) part, drop-drop (offset + length part - held) held buffer, behind)
+            (sym (append_assoc (take held buffer) (drop (held - offset) part) (drop (offset + length part) buffer))),
+      )

@@ -4,8 +4,7 @@
 use mathlib.Core.Path.{◌≡◌, refl}
 use mathlib.Core.List.{List, [], ◌∷◌}
 use Prim.Native.Nat.{ℕ}
-use Rattle.transfer.specs.declared.Joined.{Joined}
-use Rattle.transfer.specs.Join.{joined, buffer_after}
+use Rattle.transfer.specs.Join.{Joined, joined, buffer_after}
 
 abbrev pub buffer : List ℕ
 buffer = 11 ∷ 12 ∷ 13 ∷ 90 ∷ 91 ∷ []

@@ -14,7 +14,7 @@ use borrow.Author.Tests.{eqb-false, leb-true, leb-false, ne_eqb}
 use Rattle.checks.specs.Conditions.{FirstOf}
 use Rattle.checks.proofs.ConditionLaws.{first_of, one_of}
 use Rattle.checks.proofs.Tests.{tests, case, left, right}
-use Rattle.transfer.specs.Join.{agree, checks, refusal, joined, buffer_after}
+use Rattle.transfer.specs.Join.{agree, checks, refusal, joined_in, joined, buffer_after}
 use Rattle.transfer.specs.Refusals.{Differs, refusals, JoinAnswers}
 use Rattle.transfer.proofs.join.Reads as join_reads
 
@@ -95,5 +95,5 @@ module _ (buffer : List ℕ) (held offset : ℕ) (part : List ℕ) where
 
 pub join :
     (κs : _) (a : _) (r : _) (at : _) → join_reads.Post κs a r at
-    → JoinAnswers a.0.now a.1.0 a.1.1.0 a.1.1.1.0.now r.number r.held at.0.now
+    → JoinAnswers a.0.now a.1.0 a.1.1.0 a.1.1.1.0.now (joined_in a.1.0 r).number (joined_in a.1.0 r).held at.0.now
 join κs a r at p = rw (p.0, p.1) (join_answers a.0.now a.1.0 a.1.1.0 a.1.1.1.0.now)

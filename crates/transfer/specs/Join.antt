@@ -1,8 +1,24 @@
 -- Document 01, "Step files, parts and writing": what joining a part to the bytes held gives, and what it leaves in the buffer.
 -- Assumes nothing.
-use Rattle.std.specs.Prelude.{Bool, true, ◌&&◌, cond, List, [], ◌∷◌, ◌++◌, ℕ, ◌+◌, ◌-◌, max, leb, eqb, length, take, drop}
+use Rattle.std.specs.Prelude.{Bool, true, ◌&&◌, cond, List, [], ◌∷◌, ◌++◌, ℕ, ◌+◌, ◌-◌, max, leb, eqb, length, take, drop, Result, Ok, Err}
 use Rattle.checks.specs.Checks.{Check, ◌!◌, first}
-use Rattle.transfer.specs.declared.Joined.{Joined}
+use Rattle.transfer.specs.declared.Unjoined.{Unjoined}
+use Rattle.transfer.specs.declared.Unjoined.TheVariants.{Gap, NoRoom, Differs}
+
+-- the number that refuses a part, 0 for one that is accepted, and how many bytes are held then
+pub record Joined : Type 0 where
+  pub number : ℕ
+  pub held : ℕ
+
+abbrev pub number_of : Unjoined → ℕ
+number_of Gap = 14
+number_of NoRoom = 15
+number_of Differs = 16
+
+-- what the two cases of an answer say, where so many bytes were held
+abbrev pub joined_in : ℕ → Result ℕ Unjoined → Joined
+joined_in held (Ok n) = record { number = 0; held = n }
+joined_in held (Err e) = record { number = number_of e; held = held }
 
 -- two lists agree byte for byte as far as both reach
 abbrev pub agree : List ℕ → List ℕ → Bool

@@ -1,8 +1,7 @@
 -- Document 01, "Step files, parts and writing": the parts of a file arrive one after the other and are joined in one buffer.
 -- Assumes nothing.
 use Rattle.std.specs.Prelude.{◌≡◌, ◌⊎◌, List, [], ◌∷◌, ℕ, ◌+◌, ◌≤◌, max, length, take, drop}
-use Rattle.transfer.specs.declared.Joined.{Joined}
-use Rattle.transfer.specs.Join.{joined, buffer_after}
+use Rattle.transfer.specs.Join.{Joined, joined, buffer_after}
 
 -- a part, with the offset that it is said to be cut at
 pub record Arrival : Type 0 where

@@ -1,2 +1,4 @@
 pub mod Fields
 pub mod Cases
+pub mod Kinds
+pub mod Heads

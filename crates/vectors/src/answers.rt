@@ -1,143 +1,150 @@
-// What a case of each kind is answered by: the line behind its word.
-ghost use Rattle.std.specs.Prelude.{◌≤◌, length};
+// What a case of each kind is answered by: its line.
 
-use crate::fields::{read_amounts, state_in, table_at, usize_at};
+use crate::cases::Case;
+use crate::fields::{amounts_at, state_in, table_at, usize_at};
+use crate::kinds::Kind;
+use limits::Table;
 use numbers::{byte_at, u32_at};
-use printing::{number, number8, number64};
-use shift::Answer;
+use printing::Line;
+use shift::{Answer, State};
 use std::io::Write;
-use stepfile::write::{Wish, Written};
 use verdict::Verdict;
 
-pub(crate) fn admit(writer: &mut impl Write, a: &[u8]) {
-    number8(writer, table_at(a, 0).broken_rule());
+// The line of what is no case, or of a case whose fields have other lengths than they should.
+pub(crate) fn bad(line: &mut Line<impl Write>) {
+    let _ = line.write_all(b"bad\n");
 }
 
-pub(crate) fn step(writer: &mut impl Write, a: &[u8]) {
-    print_answer(
-        writer,
-        state_in(a).step(table_at(a, 0), byte_at(a, 64), u32_at(a, 65)),
-    );
-}
-
-pub(crate) fn advance(writer: &mut impl Write, a: &[u8]) {
-    let state = state_in(a);
-    let table = table_at(a, 0);
-    let code = byte_at(a, 64);
-    let middle = byte_at(a, 65);
-    print_answer(
-        writer,
-        gateway::advanced(state, table, code, middle, byte_at(a, 66), byte_at(a, 67)),
-    );
-}
-
-fn print_answer(writer: &mut impl Write, answer: Answer) {
-    number8(writer, answer.number);
-    number8(writer, answer.rule);
-    number64(writer, answer.excess);
-    printing::state(writer, answer.state);
-}
-
-pub(crate) fn read(writer: &mut impl Write, file: &[u8]) {
-    let refusal = stepfile::refused(file);
-    number8(writer, refusal.number);
-    number8(writer, refusal.rule);
-    printing::table(writer, stepfile::table(file));
-    printing::bytes(writer, stepfile::records(file));
-}
-
-pub(crate) fn judge(writer: &mut impl Write, file: &[u8]) {
-    print_verdict(writer, verdict::judge(file));
-}
-
-fn print_verdict(writer: &mut impl Write, verdict: Verdict) {
-    number8(writer, verdict.number);
-    number8(writer, verdict.rule);
-    number(writer, verdict.index);
-    number64(writer, verdict.excess);
-    printing::state(writer, verdict.state);
-}
-
-pub(crate) fn line(writer: &mut impl Write, file: &[u8], out: &mut [u8]) {
-    let laid = verdict::line(file, out);
-    number8(writer, laid.number);
-    number(writer, laid.length);
-    printing::bytes(writer, out);
-}
-
-pub(crate) fn join(writer: &mut impl Write, a: &[u8], part: &[u8], buffer: &mut [u8]) {
-    let joined = transfer::join(buffer, usize_at(a, 0), usize_at(a, 8), part);
-    number8(writer, joined.number);
-    number(writer, joined.held);
-    printing::bytes(writer, buffer);
-}
-
-pub(crate) fn write(writer: &mut impl Write, a: &[u8], codes: &[u8], out: &mut [u8])
-    requires { length a.now ≤ 66000 }
-{
-    let mut amounts = [0u32; 16491];
-    let count = read_amounts(a, &mut amounts);
-    print_written(
-        writer,
-        stepfile::write::write(wish_in(a), codes, &amounts[..count], out),
-    );
-    printing::bytes(writer, out);
-}
-
-// The first byte is 0 for the wish for none.
-fn wish_in(a: &[u8]) -> Wish {
-    if byte_at(a, 0) == 0 {
-        return Wish::NoTable;
+impl Case<'_> {
+    // Its line.
+    pub(crate) fn answer(&mut self, line: &mut Line<impl Write>) {
+        let kind = self.kind;
+        if !kind.is_sized(self.a.len(), self.b.len(), self.c.len()) {
+            bad(line);
+            return;
+        }
+        let _ = write!(line, "{kind}");
+        self.print(line);
+        let _ = line.write_all(b"\n");
     }
-    Wish::Given(table_at(a, 1))
+
+    // What stands behind the word.
+    fn print(&mut self, line: &mut Line<impl Write>) {
+        match self.kind {
+            Kind::Admit => line.number(self.table().broken_rule()),
+            Kind::Step => self.step(line),
+            Kind::Advance => self.advance(line),
+            Kind::Read => self.read(line),
+            Kind::Judge => print_verdict(line, verdict::judge(self.b)),
+            Kind::Line => self.lay(line),
+            Kind::Join => self.join(line),
+            Kind::Write => self.write(line),
+            Kind::Manual => engines::print(line, self.table(), self.b),
+            Kind::Block => self.advance_block(line),
+            Kind::List => listing::build(line, self.b, self.c),
+            Kind::Fetch => listing::fetch(line, self.b, usize_at(self.a, 0)),
+            Kind::Extend => self.extend(line),
+            Kind::Text => tabling::text(line, self.b),
+            Kind::Tighter => tabling::tighter(line, self.table(), table_at(self.a, 44)),
+            Kind::Print => tabling::print(line, self.table()),
+            Kind::Rules => tabling::rules(line, self.table()),
+        }
+    }
+
+    fn table(&self) -> Table {
+        table_at(self.a, 0)
+    }
+
+    fn state(&self) -> State {
+        state_in(self.a)
+    }
+
+    fn step(&self, line: &mut Line<impl Write>) {
+        let code = byte_at(self.a, 64);
+        let amount = u32_at(self.a, 65);
+        print_answer(line, self.state().step(self.table(), code, amount));
+    }
+
+    fn advance(&self, line: &mut Line<impl Write>) {
+        let code = byte_at(self.a, 64);
+        let middle = byte_at(self.a, 65);
+        let low = byte_at(self.a, 66);
+        let high = byte_at(self.a, 67);
+        print_answer(
+            line,
+            gateway::advanced(self.state(), self.table(), code, middle, low, high),
+        );
+    }
+
+    fn read(&self, line: &mut Line<impl Write>) {
+        let (number, rule) = match stepfile::refused(self.b) {
+            Ok(()) => (0, 0),
+            Err(unread) => (unread.number(), unread.rule()),
+        };
+        line.number(number);
+        line.number(rule);
+        line.table(stepfile::table(self.b));
+        line.bytes(stepfile::records(self.b));
+    }
+
+    fn lay(&mut self, line: &mut Line<impl Write>) {
+        let laid = verdict::line(self.b, self.c);
+        line.number(laid.map_or_else(|refusal| refusal.number(), |_| 0));
+        line.number(laid.unwrap_or(0));
+        line.bytes(self.c);
+    }
+
+    fn join(&mut self, line: &mut Line<impl Write>) {
+        let held = usize_at(self.a, 0);
+        let offset = usize_at(self.a, 8);
+        let joined = transfer::join(self.c, held, offset, self.b);
+        line.number(joined.map_or_else(|refusal| refusal.number(), |_| 0));
+        line.number(joined.unwrap_or(held));
+        line.bytes(self.c);
+    }
+
+    // The first byte is 0 for the wish for none; the amounts stand behind the table.
+    fn write(&mut self, line: &mut Line<impl Write>) {
+        let wish = (byte_at(self.a, 0) != 0).then(|| table_at(self.a, 1));
+        // Room for those of the longest field, so that nothing is allocated for them.
+        let amounts: [u32; 16491] = amounts_at(self.a, 45);
+        let count = self.a.len().saturating_sub(45) / 4;
+        let written = stepfile::write::write(wish, self.b, &amounts[..count], self.c);
+        let (number, rule, index) = match written {
+            Ok(_) => (0, 0, 0),
+            Err(unwritten) => (unwritten.number(), unwritten.rule(), unwritten.index()),
+        };
+        line.number(number);
+        line.number(rule);
+        line.number(index);
+        line.number(written.unwrap_or(0));
+        line.bytes(self.c);
+    }
+
+    fn advance_block(&self, line: &mut Line<impl Write>) {
+        let (state, table) = (self.state(), self.table());
+        print_verdict(line, gateway::advanced_block(state, table, self.b));
+    }
+
+    fn extend(&mut self, line: &mut Line<impl Write>) {
+        let (state, table) = (self.state(), self.table());
+        let held = usize_at(self.a, 64);
+        let count = u32_at(self.a, 72);
+        listing::extend(line, self.c, held, state, count, table, self.b);
+    }
 }
 
-fn print_written(writer: &mut impl Write, written: Written) {
-    number8(writer, written.number);
-    number8(writer, written.rule);
-    number(writer, written.index);
-    number(writer, written.length);
+fn print_answer(line: &mut Line<impl Write>, answer: Answer) {
+    line.number(answer.number);
+    line.number(answer.rule);
+    line.number(answer.excess);
+    line.state(answer.state);
 }
 
-pub(crate) fn manual(writer: &mut impl Write, a: &[u8], records: &[u8]) {
-    engines::print(writer, table_at(a, 0), records);
-}
-
-pub(crate) fn block(writer: &mut impl Write, a: &[u8], records: &[u8]) {
-    print_verdict(
-        writer,
-        gateway::advanced_block(state_in(a), table_at(a, 0), records),
-    );
-}
-
-pub(crate) fn list(writer: &mut impl Write, file: &[u8], out: &mut [u8]) {
-    listing::build(writer, file, out);
-}
-
-pub(crate) fn fetch(writer: &mut impl Write, a: &[u8], list: &[u8]) {
-    listing::fetch(writer, list, usize_at(a, 0));
-}
-
-pub(crate) fn extend(writer: &mut impl Write, a: &[u8], records: &[u8], list: &mut [u8]) {
-    let held = usize_at(a, 64);
-    let state = state_in(a);
-    let count = u32_at(a, 72);
-    let table = table_at(a, 0);
-    listing::extend(writer, list, held, state, count, table, records);
-}
-
-pub(crate) fn text(writer: &mut impl Write, text: &[u8]) {
-    tabling::text(writer, text);
-}
-
-pub(crate) fn tighter(writer: &mut impl Write, a: &[u8]) {
-    tabling::tighter(writer, table_at(a, 0), table_at(a, 44));
-}
-
-pub(crate) fn print(writer: &mut impl Write, a: &[u8]) {
-    tabling::print(writer, table_at(a, 0));
-}
-
-pub(crate) fn rules(writer: &mut impl Write, a: &[u8]) {
-    tabling::rules(writer, table_at(a, 0));
+fn print_verdict(line: &mut Line<impl Write>, verdict: Verdict) {
+    line.number(verdict.number);
+    line.number(verdict.rule);
+    line.number(verdict.index);
+    line.number(verdict.excess);
+    line.state(verdict.state);
 }

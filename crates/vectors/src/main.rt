@@ -4,30 +4,38 @@
 mod answers;
 mod cases;
 mod fields;
-mod output;
+mod kinds;
 
-use output::Output;
+use cases::{NoCase, Spaces};
+use output::Unwritten;
+use printing::Line;
+use std::io::{Read, Write};
 use std::process::ExitCode;
 
-// The status of a program that the system ends because nobody reads on.
-const NOBODY_READS: u8 = 141;
-
-// Case after case until the input ends, or until 2^64 - 1 of them are answered.
 fn main(rt: HostRuntime) -> ExitCode {
-    let mut reader = rt.stdin();
-    let mut writer = Output::to(rt.stdout());
-    // The longest fields.
-    let mut a = [0u8; 66000];
-    let mut b = [0u8; 66000];
-    let mut c = [0u8; 66000];
+    let mut line = Line::to(rt.stdout());
+    answer_all(&mut rt.stdin(), &mut line);
+    output::status(if line.is_closed() {
+        Err(Unwritten::NobodyReads)
+    } else {
+        Ok(())
+    })
+}
+
+// Case after case until the input ends, no case is there or nobody reads on, or until 2^64 - 1 of them are answered.
+fn answer_all(reader: &mut impl Read, line: &mut Line<impl Write>) {
+    let mut spaces = Spaces::new();
     for _ in 0..u64::MAX {
-        let goes_on = cases::answer_next(&mut reader, &mut writer, &mut a, &mut b, &mut c);
-        if writer.is_closed() {
-            return ExitCode::from(NOBODY_READS);
+        match spaces.read_case(reader) {
+            Ok(Some(mut case)) => case.answer(line),
+            Ok(None) => break,
+            Err(NoCase) => {
+                answers::bad(line);
+                break;
+            }
         }
-        if !goes_on {
+        if line.is_closed() {
             break;
         }
     }
-    ExitCode::SUCCESS
 }

@@ -10,13 +10,13 @@ use denote.Triple.Entry.{Args}
 use denote.Triple.Clauses.{AtExit}
 use Rattle.limits.specs.Refusals.{by_old_default, by_new_default}
 use Rattle.promises.proofs.Defaults.{accepted_by_the_new_default}
-use Rattle.shift.specs.declared.Reading.{Reading}
+use Rattle.shift.specs.Readings.{Reading}
 use Rattle.shift.specs.States.{start}
 use Rattle.shift.specs.Runs.{run}
-use Rattle.stepfile.specs.declared.write.Wish.TheVariants.{NoTable}
-use Rattle.stepfile.specs.declared.write.Written.{Written}
+use Rattle.std.proofs.Common.{None, Result}
+use Rattle.stepfile.specs.declared.write.Unwritten.{Unwritten}
 use Rattle.stepfile.specs.Files.{table_entries, table_in, refusal_of, readings_of}
-use Rattle.stepfile.specs.Writing.{wished}
+use Rattle.stepfile.specs.Writing.{wished, written_as}
 use Rattle.stepfile.specs.RoundTrip.{readings_by, codes_in}
 use Rattle.stepfile.proofs.TableLaws.{without_entries}
 use Rattle.stepfile.proofs.RoundTrip.{taken_apart_reads_the_same}
@@ -50,8 +50,8 @@ ten_ms_without_a_table = answered known.without_a_table (λ v. told v ≡ 12 ∷
 
 -- ---- of a call of `write` that answers 0 to the wish for none, and of any call of `judge` on the bytes that it wrote
 module _
-    (κs : Lfts 3) (given : Args write_call.signature κs) (r : Written) (left : AtExit write_call.ended κs)
-    (call : write_reads.Post κs given r left) (z : r.number ≡ 0) (none : given.0 ≡ NoTable) where
+    (κs : Lfts 3) (given : Args write_call.signature κs) (r : Result ℕ Unwritten) (left : AtExit write_call.ended κs)
+    (call : write_reads.Post κs given r left) (z : (written_as r).number ≡ 0) (none : given.0 ≡ None) where
   abbrev pub file : List ℕ
   file = bytes κs given r left call z
 

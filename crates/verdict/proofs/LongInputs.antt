@@ -13,9 +13,8 @@ use lib.Seq.{get_or-take, length-take-le}
 use borrow.Author.Tests.{le-leb, ne_eqb, leb-true}
 use Rattle.checks.specs.Checks.{first}
 use Rattle.checks.proofs.Tests.{case, passes}
-use Rattle.stepfile.specs.declared.Refusal.{Refusal}
 use Rattle.numbers.specs.Bytes.{u16_at}
-use Rattle.stepfile.specs.Files.{most_records, headed_by, headed, table_offset, table_entries, record_offset, record_count, refusal_of}
+use Rattle.stepfile.specs.Files.{Refusal, most_records, headed_by, headed, table_offset, table_entries, record_offset, record_count, refusal_of}
 use Rattle.stepfile.proofs.EntryLaws.{Few, few, most_between}
 use Rattle.stepfile.proofs.FileLaws.{header_refused}
 use Rattle.verdict.specs.Verdicts.{unread, verdict_of}

@@ -9,10 +9,12 @@ use native.Mathlib.Omega.{arith}
 use lib.Dec.{eqb}
 use lib.ListN.{get_or}
 use borrow.Author.Tests.{eqb-true, eqb-false}
+use Rattle.std.specs.Prelude.{Ok, Err}
 use Rattle.checks.specs.Conditions.{FirstOf}
 use Rattle.checks.proofs.Checks.{between}
 use Rattle.checks.proofs.Tests.{case}
 use Rattle.limits.specs.declared.Table.{Table}
+use Rattle.line.specs.Laying.{laid_in}
 use Rattle.line.specs.Refusals.{LineAnswers}
 use Rattle.line.proofs.Refusals.{line_answers}
 use Rattle.promises.specs.Verdicts.{at}
@@ -20,8 +22,8 @@ use Rattle.promises.specs.HowFar.{HowFar}
 use Rattle.promises.proofs.OneStep.{refused_in_the_document's_words}
 use Rattle.promises.proofs.ExcessLaws.{how_far}
 use Rattle.shift.specs.declared.State.{State}
-use Rattle.shift.specs.declared.Reading.{Reading}
-use Rattle.shift.specs.declared.Reading.TheVariants.{Means, WrongCode, WrongAmount}
+use Rattle.shift.specs.Readings.{Reading}
+use Rattle.shift.specs.declared.Misread.TheVariants.{WrongCode, WrongAmount}
 use Rattle.shift.specs.declared.Step.TheVariants.{FromNeutral, GearToGear, ToNeutral, Deliver, DeviceGood, DeviceFailed, EngineWaits, Take, AskClutch, RaiseError, Finish, Tick, Reset}
 use Rattle.shift.specs.Answers.{reading, checks, guard, led, excess}
 use Rattle.shift.proofs.Refusals.{reads}
@@ -41,21 +43,21 @@ use Rattle.verdict.proofs.line.Reads as line_reads_lem
 
 -- what a step is refused with
 guard_numbers : (t : Table) (s : State) (r : Reading) → (guard t s r ≡ 0) ⊎ ((5 ≤ guard t s r) × (guard t s r ≤ 13))
-guard_numbers t s (Means FromNeutral) = between 5 13 (checks t s (Means FromNeutral)) tt
-guard_numbers t s (Means GearToGear) = between 5 13 (checks t s (Means GearToGear)) tt
-guard_numbers t s (Means ToNeutral) = between 5 13 (checks t s (Means ToNeutral)) tt
-guard_numbers t s (Means Deliver) = between 5 13 (checks t s (Means Deliver)) tt
-guard_numbers t s (Means DeviceGood) = between 5 13 (checks t s (Means DeviceGood)) tt
-guard_numbers t s (Means DeviceFailed) = between 5 13 (checks t s (Means DeviceFailed)) tt
-guard_numbers t s (Means EngineWaits) = between 5 13 (checks t s (Means EngineWaits)) tt
-guard_numbers t s (Means Take) = between 5 13 (checks t s (Means Take)) tt
-guard_numbers t s (Means AskClutch) = between 5 13 (checks t s (Means AskClutch)) tt
-guard_numbers t s (Means RaiseError) = between 5 13 (checks t s (Means RaiseError)) tt
-guard_numbers t s (Means Finish) = between 5 13 (checks t s (Means Finish)) tt
-guard_numbers t s (Means (Tick n)) = between 5 13 (checks t s (Means (Tick n))) tt
-guard_numbers t s (Means Reset) = between 5 13 (checks t s (Means Reset)) tt
-guard_numbers t s WrongCode = between 5 13 (checks t s WrongCode) tt
-guard_numbers t s WrongAmount = between 5 13 (checks t s WrongAmount) tt
+guard_numbers t s (Ok FromNeutral) = between 5 13 (checks t s (Ok FromNeutral)) tt
+guard_numbers t s (Ok GearToGear) = between 5 13 (checks t s (Ok GearToGear)) tt
+guard_numbers t s (Ok ToNeutral) = between 5 13 (checks t s (Ok ToNeutral)) tt
+guard_numbers t s (Ok Deliver) = between 5 13 (checks t s (Ok Deliver)) tt
+guard_numbers t s (Ok DeviceGood) = between 5 13 (checks t s (Ok DeviceGood)) tt
+guard_numbers t s (Ok DeviceFailed) = between 5 13 (checks t s (Ok DeviceFailed)) tt
+guard_numbers t s (Ok EngineWaits) = between 5 13 (checks t s (Ok EngineWaits)) tt
+guard_numbers t s (Ok Take) = between 5 13 (checks t s (Ok Take)) tt
+guard_numbers t s (Ok AskClutch) = between 5 13 (checks t s (Ok AskClutch)) tt
+guard_numbers t s (Ok RaiseError) = between 5 13 (checks t s (Ok RaiseError)) tt
+guard_numbers t s (Ok Finish) = between 5 13 (checks t s (Ok Finish)) tt
+guard_numbers t s (Ok (Tick n)) = between 5 13 (checks t s (Ok (Tick n))) tt
+guard_numbers t s (Ok Reset) = between 5 13 (checks t s (Ok Reset)) tt
+guard_numbers t s (Err WrongCode) = between 5 13 (checks t s (Err WrongCode)) tt
+guard_numbers t s (Err WrongAmount) = between 5 13 (checks t s (Err WrongAmount)) tt
 
 module _ (f : List ℕ) where
   not_read : ¬ ((refusal_of f).number ≡ 0) → JudgeAnswers f (unread (refusal_of f))
@@ -148,5 +150,5 @@ judge κs a r at p = subst (JudgeAnswers a.0.now) (sym p) (judge_answers a.0.now
 
 pub line :
     (κs : _) (a : _) (r : _) (at : _) → line_reads_lem.Post κs a r at
-    → LineAnswers (line_for a.0.now) a.1.0.now r.number r.length at.1.0.now
+    → LineAnswers (line_for a.0.now) a.1.0.now (laid_in r).number (laid_in r).length at.1.0.now
 line κs a r at p = rw (p.0, p.1) (line_answers (line_for a.0.now) a.1.0.now)

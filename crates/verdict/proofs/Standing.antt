@@ -1,13 +1,11 @@
 -- Where the judge's loop stands: what holds before every record, that a refused one ends it and an accepted one leads on.
 -- Assumes nothing.
 use mathlib.Core.Path.{◌≡◌, refl, sym, ap, ◌∙◌}
-use mathlib.Core.Logic.{⊎_elim}
-use mathlib.Core.List.{List, [], ◌∷◌}
+use mathlib.Core.List.{List}
 use Prim.Native.Nat.{ℕ, ◌+◌, ◌*◌, ◌≤◌, ◌<◌}
 use native.Mathlib.Omega.{arith}
-use types.Run.{OneOf}
-use denote.Enum.Declared.{tag_of}
 use lib.ListN.{length}
+use Rattle.std.specs.Prelude.{Ok, Err}
 use Rattle.checks.specs.Checks.{first}
 use Rattle.checks.proofs.Checks.{Holds}
 use Rattle.limits.specs.declared.Table.{Table}
@@ -16,15 +14,15 @@ use Rattle.shift.specs.declared.State.{State}
 use Rattle.shift.specs.declared.Answer.{Answer}
 use Rattle.shift.specs.declared.Step.{Step}
 use Rattle.shift.specs.declared.Step.TheVariants.{Tick}
-use Rattle.shift.specs.declared.Reading.{Reading}
-use Rattle.shift.specs.declared.Reading.TheVariants.{Means, WrongCode, WrongAmount}
+use Rattle.shift.specs.Readings.{Reading}
+use Rattle.shift.specs.declared.Misread.{Misread}
+use Rattle.shift.specs.declared.Misread.TheVariants.{WrongCode, WrongAmount}
 use Rattle.shift.specs.Steps.{allowed, ticked}
 use Rattle.shift.specs.Excess.{excess_by}
 use Rattle.shift.specs.Answers.{refusal, listed, checks_of, refused as refused_with, answer_to}
 use Rattle.shift.specs.Runs.{run}
-use Rattle.shift.proofs.AnswerLaws.{refuses, accepts, no_step}
+use Rattle.shift.proofs.AnswerLaws.{refuses, accepts}
 use Rattle.shift.proofs.ListedLaws.{judged_as_listed, accepted_listed}
-use Rattle.shift.specs.contracts.Reading.{the_type}
 use Rattle.deadlines.specs.Deadlines.{phase_end_of, deadline_by, deadline, late_by, over_by}
 use Rattle.deadlines.proofs.DeadlineLaws.{in_time, too_late, so_far_over, late_is_refused}
 use Rattle.stepfile.specs.Records.{records_in}
@@ -101,23 +99,25 @@ module _ (t : Table) (bytes : List ℕ) (begin : State) (count : ℕ) (s : State
 
     -- what is no step is refused by its own number
     pub no_step_stops :
-        (r : Reading) → r ≡ record_is → OneOf (1 ∷ 2 ∷ []) (tag_of the_type r)
-        → of_run (record { count = index; number = refusal r; excess = 0; state = s }) ≡ of_run (run t begin (records_in bytes))
-    no_step_stops r e o =
-        stops (refused_with (refusal r) 0 s) (no_step (allowed t s) t s r o ∙ ap answer_to_lem e) (no_zero r o)
+        (m : Misread) → record_is ≡ Err m
+        → of_run (record { count = index; number = refusal (Err m); excess = 0; state = s }) ≡ of_run (run t begin (records_in bytes))
+    no_step_stops m e = stops (refused_with (refusal (Err m)) 0 s) (own m ∙ sym (ap answer_to_lem e)) (no_zero m)
       where
-        no_zero : (r : Reading) → OneOf (1 ∷ 2 ∷ []) (tag_of the_type r) → ¬ (refusal r ≡ 0)
-        no_zero (Means x) o z = absurd (⊎_elim (λ e. omega arith) (λ e. omega arith) o)
-        no_zero WrongCode o z = omega arith
-        no_zero WrongAmount o z = omega arith
+        own : (m : Misread) → refused_with (refusal (Err m)) 0 s ≡ answer_to_lem (Err m)
+        own WrongCode = refl
+        own WrongAmount = refl
+
+        no_zero : (m : Misread) → ¬ (refusal (Err m) ≡ 0)
+        no_zero WrongCode z = omega arith
+        no_zero WrongAmount z = omega arith
 
     -- a step is judged
-    module _ (x : Step) (e : record_is ≡ Means x) where
-      pub as_step : answer_to t s (Means x) (first (allowed t s x)) ≡ answer_is
+    module _ (x : Step) (e : record_is ≡ Ok x) where
+      pub as_step : answer_to t s (Ok x) (first (allowed t s x)) ≡ answer_is
       as_step = sym (ap answer_to_lem e)
 
     -- a tick up to the deadline is accepted, and one past it is refused
-    module _ (n : ℕ) (e : record_is ≡ Means (Tick n)) where
+    module _ (n : ℕ) (e : record_is ≡ Ok (Tick n)) where
       pub tick_leads : s.clock + n ≤ deadline t s → Stands t bytes begin count (ticked n s) (index + 1)
       tick_leads l =
           let a : Answer = record { number = 0; rule = 0; excess = 0; state = ticked n s } in
@@ -137,7 +137,7 @@ module _ (t : Table) (bytes : List ℕ) (begin : State) (count : ℕ) (s : State
           let late = late_is_refused device t.channel_dl s now in
           ap (λ over. of_run (record { count = index; number = k; excess = over; state = s })) (so_far_over t s now l)
           ∙ stops (refused_with k (excess_by t s 0 now k) s)
-          (refuses k (excess_by t s 0 now k) (ticked n s) s late ∙ ap (answer_to t s (Means (Tick n))) (too_late t s now l) ∙ as_step (Tick n) e)
+          (refuses k (excess_by t s 0 now k) (ticked n s) s late ∙ ap (answer_to t s (Ok (Tick n))) (too_late t s now l) ∙ as_step (Tick n) e)
           late
 
   -- there is no record left

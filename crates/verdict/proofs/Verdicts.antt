@@ -10,7 +10,7 @@ use Rattle.promises.specs.Verdicts.{Exact}
 use Rattle.promises.proofs.Boxes.{Stands}
 use Rattle.promises.proofs.Promises.{accepted_up_to_the_first_forbidden_step, the_box_by_phase, accepted_by_a_looser_table_from_any_state, unfinished_shifts_are_no_older_than_their_sum}
 use Rattle.shift.specs.States.{start}
-use Rattle.shift.specs.declared.Reading.{Reading}
+use Rattle.shift.specs.Readings.{Reading}
 use Rattle.shift.specs.Runs.{Outcome, run}
 use Rattle.stepfile.specs.Files.{record_count, table_in, refusal_of, readings_of}
 use Rattle.stepfile.proofs.RoundTrip.{as_many_records}

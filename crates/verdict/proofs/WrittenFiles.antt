@@ -8,12 +8,13 @@ use contract.Lifetimes.{Lfts}
 use denote.Triple.Entry.{Args}
 use denote.Triple.Clauses.{AtExit}
 use Rattle.limits.specs.declared.Table.{Table}
-use Rattle.shift.specs.declared.Reading.{Reading}
+use Rattle.shift.specs.Readings.{Reading}
 use Rattle.shift.specs.States.{start}
 use Rattle.shift.specs.Runs.{run}
-use Rattle.stepfile.specs.declared.write.Written.{Written}
+use Rattle.std.proofs.Common.{Result}
+use Rattle.stepfile.specs.declared.write.Unwritten.{Unwritten}
 use Rattle.stepfile.specs.Files.{readings_of}
-use Rattle.stepfile.specs.Writing.{wished}
+use Rattle.stepfile.specs.Writing.{wished, written_as}
 use Rattle.stepfile.specs.RoundTrip.{readings_by}
 use Rattle.stepfile.proofs.RoundTripCalls.{GoodFileOf, write_reads_back}
 use Rattle.stepfile.specs.contracts.write.write as write_call
@@ -32,11 +33,11 @@ judged_as_given t steps f g =
 
 -- of a call of `write` that answers 0
 module _
-    (κs : Lfts 3) (given : Args write_call.signature κs) (r : Written) (left : AtExit write_call.ended κs)
-    (call : write_reads.Post κs given r left) (z : r.number ≡ 0) where
+    (κs : Lfts 3) (given : Args write_call.signature κs) (r : Result ℕ Unwritten) (left : AtExit write_call.ended κs)
+    (call : write_reads.Post κs given r left) (z : (written_as r).number ≡ 0) where
   -- the bytes that it wrote
   abbrev pub bytes : List ℕ
-  bytes = take r.length left.1.1.1.0.now
+  bytes = take (written_as r).length left.1.1.1.0.now
 
   -- the verdict on the table and the list
   abbrev pub verdict : Verdict

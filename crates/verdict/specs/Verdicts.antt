@@ -4,8 +4,7 @@
 use Rattle.std.specs.Prelude.{ℕ, zero, suc, List}
 use Rattle.shift.specs.States.{start}
 use Rattle.shift.specs.Runs.{Outcome, run}
-use Rattle.stepfile.specs.declared.Refusal.{Refusal}
-use Rattle.stepfile.specs.Files.{table_in, refusal_of, readings_of}
+use Rattle.stepfile.specs.Files.{Refusal, table_in, refusal_of, readings_of}
 use Rattle.verdict.specs.declared.Verdict.{Verdict}
 
 -- of the records of a file that is read

@@ -5,20 +5,22 @@ ghost use Rattle.std.specs.Prelude.{◌≡◌, ℕ, ◌+◌, ◌*◌, ◌/◌, �
 ghost use Rattle.checks.specs.Checks.{first};
 ghost use Rattle.limits.specs.declared.Table.{Table};
 ghost use Rattle.limits.specs.Limits.{entries};
+ghost use Rattle.shift.specs.Numbers.{number_of};
 ghost use Rattle.shift.specs.Steps.{ticked};
 ghost use Rattle.shift.specs.Answers.{listed};
 ghost use Rattle.shift.specs.Runs.{run};
 ghost use Rattle.stepfile.specs.Records.{record_of, records_in};
-ghost use Rattle.line.specs.Laying.{laid, after};
+ghost use Rattle.line.specs.Laying.{laid_in, laid, after};
 ghost use Rattle.verdict.specs.Verdicts.{of_run, verdict_of};
 ghost use Rattle.verdict.specs.Said.{word_for, said, line_for};
 
 use limits::Table;
-use line::{Laid, Line, Word};
-use shift::{Reading, State, Step};
+use line::{Line, NoRoom, Word};
+use shift::{Reading, Refused, State, Step, refusal};
 
 // Accepted, number 0, with the end state and the number of records; or refused with the number, the index of the refused record, how
-// far over it is and the state before it. With 1 to 4 the index is 0 and the state the start; the rule is 0 except with 4.
+// far over it is and the state before it. With 1 to 4 the index is 0 and the state the start; the rule is 0 except with 4. Number and rule
+// are plain numbers: munasirel_verdict hands the struct to C.
 #[repr(C)]
 #[derive(Clone, Copy)]
 pub struct Verdict {
@@ -33,15 +35,13 @@ pub struct Verdict {
 pub fn judge(file: &[u8]) -> Verdict
     ensures { result ≡ verdict_of file.now }
 {
-    let refusal = stepfile::refused(file);
-    if refusal.number != 0 {
-        let state = State::start();
+    if let Err(unread) = stepfile::refused(file) {
         return Verdict {
-            number: refusal.number,
-            rule: refusal.rule,
+            number: unread.number(),
+            rule: unread.rule(),
             index: 0,
             excess: 0,
-            state,
+            state: State::start(),
         };
     }
     let table = stepfile::table(file);
@@ -53,29 +53,28 @@ pub fn judge(file: &[u8]) -> Verdict
     )
 }
 
-// Lays the line of a file's verdict at the start of `out`, or answers 15 and changes no byte.
-pub fn line(file: &[u8], out: &mut [u8]) -> Laid
-    ensures value { result ≡ laid (line_for file.now) out.old }
+// Lays the line of a file's verdict at the start of `out`, or changes no byte where it does not fit.
+pub fn line(file: &[u8], out: &mut [u8]) -> Result<usize, NoRoom>
+    ensures value { laid_in result ≡ laid (line_for file.now) out.old }
     ensures out_after { out.new ≡ after (line_for file.now) out.old }
 {
-    line::lay(judge(file).said(), out)
+    line::lay(Line::from(judge(file)), out)
 }
 
-impl Verdict {
-    // What the line says of the verdict.
-    fn said(self) -> Line
-        ensures { result ≡ said self }
-    {
-        let state = self.state;
-        let word = word_of(self.number);
+// What the line says of a verdict.
+impl From<Verdict> for Line {
+    ghost from_gives = { λ verdict line. line ≡ said verdict };
+
+    fn from(verdict: Verdict) -> Line {
+        let state = verdict.state;
         Line {
-            word,
-            count: self.index as u64,
-            number: self.number,
+            word: word_of(verdict.number),
+            count: verdict.index as u64,
+            number: verdict.number,
             clock: state.clock,
             phase: state.phase,
             gear_box: state.gear_box,
-            excess: self.excess,
+            excess: verdict.excess,
         }
     }
 }
@@ -84,13 +83,11 @@ impl Verdict {
 fn word_of(number: u8) -> Word
     ensures { result ≡ word_for number }
 {
-    if number == 0 {
-        return Word::Accepted;
+    match number {
+        0 => Word::Accepted,
+        1..=4 => Word::Unread,
+        _ => Word::Refused,
     }
-    if number <= 4 {
-        return Word::Unread;
-    }
-    Word::Refused
 }
 
 // Judges records from any state on, under a table that has been tested. What is left over behind them is no record.
@@ -100,41 +97,31 @@ pub fn judge_records(first: State, table: Table, records: &[u8]) -> Verdict
     judge_under(first, table, &table.entries(), records)
 }
 
-// The same with the table's entries beside it, from which limits are read by their numbers.
+// The same with the table's entries beside it, from which limits are read by their numbers. The two stand apart: the step takes the table.
 fn judge_under(first: State, table: Table, limits: &[u16; 22], records: &[u8]) -> Verdict
     requires { limits.now ≡ entries table }
     ensures { result ≡ of_run (run table first (records_in records.now)) }
 {
-    let number = first.unlisted();
-    if number != 0 {
-        return judge_unlisted(first, number, records);
+    match first.unlisted() {
+        Ok(()) => judge_listed(first, table, limits, records),
+        Err(unlisted) => judge_unlisted(first, unlisted, records),
     }
-    judge_listed(first, table, limits, records)
 }
 
-// The same from a state that is not listed, and refused with this number: no record is accepted.
-fn judge_unlisted(state: State, unlisted: u8, records: &[u8]) -> Verdict
-    requires { (unlisted ≡ first (listed state)) × ¬ (unlisted ≡ 0) }
+// The same from a state that is not listed, and refused for it: no record is accepted.
+fn judge_unlisted(state: State, unlisted: Refused, records: &[u8]) -> Verdict
+    requires { number_of unlisted ≡ first (listed state) }
     ensures { (t : Table) → result ≡ of_run (run t state (records_in records.now)) }
 {
-    if records.len() < 4 {
-        return Verdict {
-            number: 0,
-            rule: 0,
-            index: 0,
-            excess: 0,
-            state,
-        };
-    }
-    let wrong = stepfile::record_refusal(records[0], records[1], records[2], records[3]);
-    let number = if wrong == 0 { unlisted } else { wrong };
-    Verdict {
-        number,
-        rule: 0,
-        index: 0,
-        excess: 0,
-        state,
-    }
+    let [code, middle, low, high, ..] = *records else {
+        return answered(0, 0, 0, state);
+    };
+    // Only the number is asked for: a match on `stepfile::record` would have the same two arms, and be a second reader beside the loop's.
+    let number = match stepfile::record_refusal(code, middle, low, high) {
+        0 => unlisted.number(),
+        wrong => wrong,
+    };
+    answered(number, 0, 0, state)
 }
 
 // The same from a listed state, which every accepted record leads to another of. The last clock that a tick may reach is worked out
@@ -143,27 +130,23 @@ fn judge_listed(begin: State, table: Table, limits: &[u16; 22], records: &[u8]) 
     requires { (first (listed begin) ≡ 0) × (limits.now ≡ entries table) }
     ensures { result ≡ of_run (run table begin (records_in records.now)) }
 {
-    // Field by field, which spares the loop the bytes between them.
+    // Field by field, here and below: a state that is copied whole brings the bytes between its fields along, which the loop then keeps.
+    // So a parked night takes 16 instructions a record, at most half of C's; else 21.
     let mut state = State {
         clock: begin.clock,
-        gear_box: begin.gear_box,
-        phase: begin.phase,
-        phase_time: begin.phase_time,
-        stage: begin.stage,
-        stage_time: begin.stage_time,
-        request_time: begin.request_time,
-        failed_phase: begin.failed_phase,
+        ..begin
     };
+    // The three limits stand apart, as deadline_by, late_by and over_by take them: entering a phase moves two of them and not the third.
     let channel = table.channel_dl;
     let mut phase_end = deadlines::phase_end(state, limits);
     let mut device = deadlines::device_limit(state, limits);
     let mut deadline = deadlines::deadline(state, phase_end, device, channel);
     let count = records.len() / 4;
-    let mut index: usize = 0;
-    while index < count {
+    // By index, which the verdict hands to C; a record is fetched from its place as one number.
+    for index in 0..count {
         let reading = record_at(records, 4 * index);
-        let Reading::Means(x) = reading else {
-            return answered(reading.refusal(), index, 0, state);
+        let Ok(x) = reading else {
+            return answered(refusal(reading), index, 0, state);
         };
         let Step::Tick(amount) = x else {
             let answer = state.judged_step(table, x);
@@ -171,13 +154,16 @@ fn judge_listed(begin: State, table: Table, limits: &[u16; 22], records: &[u8]) 
             if number != 0 {
                 return answered(number, index, answer.excess, state);
             }
-            state = answer.state;
+            let next = answer.state;
+            state = State {
+                clock: next.clock,
+                ..next
+            };
             if deadlines::enters(x) {
                 phase_end = deadlines::phase_end(state, limits);
                 device = deadlines::device_limit(state, limits);
             }
             deadline = deadlines::deadline(state, phase_end, device, channel);
-            index += 1;
             continue;
         };
         let clock = later(state.clock, amount);
@@ -187,21 +173,24 @@ fn judge_listed(begin: State, table: Table, limits: &[u16; 22], records: &[u8]) 
             return answered(number, index, over, state);
         }
         state = clocked(state, clock);
-        index += 1;
     }
-    answered(0, index, 0, state)
+    answered(0, count, 0, state)
 }
 
 // The verdict where so many records were accepted, and the next is refused with this number and so far over, or with 0 there is none.
 fn answered(number: u8, index: usize, excess: u64, state: State) -> Verdict
     ensures { result ≡ of_run (record { count = index; number = number; excess = excess; state = state }) }
 {
+    // Field by field, as in the loop.
     Verdict {
         number,
         rule: 0,
         index,
         excess,
-        state,
+        state: State {
+            clock: state.clock,
+            ..state
+        },
     }
 }
 
@@ -219,13 +208,7 @@ fn clocked(state: State, clock: u64) -> State
 {
     State {
         clock: clock as u32,
-        gear_box: state.gear_box,
-        phase: state.phase,
-        phase_time: state.phase_time,
-        stage: state.stage,
-        stage_time: state.stage_time,
-        request_time: state.request_time,
-        failed_phase: state.failed_phase,
+        ..state
     }
 }
 
@@ -243,12 +226,10 @@ fn word_at(records: &[u8], at: usize) -> u32
     requires { at + 3 < length records.now }
     ensures { (result % 65536 % 256 ≡ get_or records.now at 0) × (result % 65536 / 256 ≡ get_or records.now (at + 1) 0) × (result / 65536 ≡ get_or records.now (at + 2) 0 + 256 * get_or records.now (at + 3) 0) }
 {
-    half(records[at], records[at + 1]) + 65536 * half(records[at + 2], records[at + 3])
-}
-
-// Two bytes, the lower one first.
-fn half(low: u8, high: u8) -> u32
-    ensures { (result ≡ low + 256 * high) × (low < 256) × (high < 256) }
-{
-    low as u32 + 256 * (high as u32)
+    u32::from_le_bytes([
+        records[at],
+        records[at + 1],
+        records[at + 2],
+        records[at + 3],
+    ])
 }

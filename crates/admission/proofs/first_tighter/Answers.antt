@@ -1,36 +1,17 @@
--- `first_tighter` meets its contract. The loop's invariant: the answer is the first of the entries from here on that is tighter.
+-- `first_tighter` meets its contract: it looks through the twenty-two entries in their order.
 -- Assumes nothing.
 use mathlib.Core.Path.{refl, sym, ◌∙◌}
-use native.Mathlib.Omega.{arith}
+use Rattle.std.proofs.Common.{rules}
+use Rattle.std.proofs.lemmas.Iterator.{YieldsList-from_range}
+use Rattle.std.proofs.lemmas.Iterator.Search.{find_from_yields_List}
+use Rattle.std.proofs.lemmas.Iterator.Adapters.{option_map_id}
 use Rattle.admission.specs.FirstTighter.{tighter_at}
-use Rattle.admission.proofs.FirstLaws.{found, next, none_left}
+use Rattle.admission.proofs.FirstLaws.{found}
 use Rattle.admission.proofs.first_tighter.Goals as goal
-
-pub loop-entry-init : goal.loop-entry-init
-loop-entry-init c = (omega arith, refl)
-
-pub returns-then-is_tighter : goal.returns-then-is_tighter
-returns-then-is_tighter c =
-    let l = c.loop-entry in
-    let a = c.args in
-    sym
-    (l.invariant.1
-    ∙ found (tighter_at a.old a.new) 22 l.entry c.loop-entry-test.true (sym c.is_tighter.ensures ∙ c.if-is_tighter.true))
-
-pub loop-entry-preserved : goal.loop-entry-preserved
-loop-entry-preserved c =
-    let l = c.loop-entry in
-    let a = c.args in (
-      omega arith,
-      l.invariant.1
-          ∙ next (tighter_at a.old a.new) 22 l.entry c.loop-entry-test.true (sym c.is_tighter.ensures ∙ c.if-is_tighter.false),
-    )
 
 pub returns : goal.returns
 returns c =
-    let l = c.loop-entry in
-    let a = c.args in
-    sym (l.invariant.1 ∙ none_left (tighter_at a.old a.new) 22 l.entry l.invariant.0 c.loop-entry-test.false)
-
-pub overflow_add-entry : goal.overflow_add-entry
-overflow_add-entry c = record { fits = omega arith }
+    let test = tighter_at c.args.old c.args.new in
+    let first = sym (option_map_id c.find.result)
+    ∙ find_from_yields_List test _ _ _ c.find.ensures.ran (YieldsList-from_range 0 22 22 refl refl) (λ x b q k. search rules) in
+    rw (c.unwrap_or.ensures, first) (found test 0 22)

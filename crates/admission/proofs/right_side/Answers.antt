@@ -10,7 +10,7 @@ pub returns : goal.returns
 returns c =
     let entries = c.entries in
     let rule = c.args.rule in
-    c.wide.ensures.0
+    c.from.ensures
     ∙ c.entry_at.ensures
     ∙ ap (entry (table_of entries.result)) c.right_entry.ensures
     ∙ ap (λ es. entry (table_of es) (get_or right_entries rule 22)) entries.ensures

@@ -1,20 +1,17 @@
 -- `write` is safe: the file lies within its buffer.
--- Assumes nothing.
-use Prim.Native.Nat.{ℕ, ◌≤◌}
-use mathlib.Core.Path.{◌≡◌, sym, subst}
-use mathlib.Core.List.{[]}
-use native.Mathlib.Omega.{arith}
-use lib.Dec.{leb, eqb}
-use lib.ListN.{length, replicate, length-replicate}
-use lib.Seq.{length-take-le}
+use Rattle.std.proofs.Common.{rules, arith, ◌≡◌, ◌≤◌, ℕ, [], length, refl, ap, sym, ◌∙◌, subst}
+use Rattle.std.specs.Prelude.{eqb, leb, Ok, Err}
+use Rattle.std.specs.Result.{result_unwrap_or}
+use Rattle.std.specs.declared.result.Result.{Result}
+use Rattle.std.proofs.Math.Seq.{length-take-le}
 use borrow.Author.Tests.{leb-true}
 use Rattle.checks.specs.Checks.{first}
 use Rattle.checks.proofs.Tests.{case}
 use Rattle.limits.specs.Rules.{broken_rule}
 use Rattle.limits.specs.declared.Table.{Table}
-use Rattle.stepfile.specs.declared.write.Written.{Written}
-use Rattle.stepfile.specs.declared.write.Wrong.{Wrong}
-use Rattle.stepfile.specs.Writing.{after_lists, after_records, fitting, first_wrong, size_of, writable, written_of}
+use Rattle.stepfile.specs.declared.write.Unwritten.{Unwritten}
+use Rattle.stepfile.specs.declared.write.Unwritten.TheVariants.{TooMany, Uneven, Record, NoRoom}
+use Rattle.stepfile.specs.Writing.{Written, Wrong, after_lists, after_records, fitting, first_wrong, size_of, writable, written_as, written_of}
 use Rattle.admit_file.proofs.write.Goals as goal
 
 -- what is written lies within the room
@@ -29,22 +26,30 @@ within number rule w size room =
     (λ f. rw f (omega arith))))
     (λ e. rw e (omega arith))
 
-held : (table : Table) (w : Written) → w ≡ written_of table [] [] (length {A = ℕ} (replicate 56 0)) → w.length ≤ 56
-held table w e =
-    let room = length {A = ℕ} (replicate 56 0) in
-    let fits : (written_of table [] [] room).length ≤ room = within (first (writable table [] [])) (broken_rule table) (first_wrong 0 [] []) (size_of table []) room in
-    let same : w.length ≤ room = subst (λ (w : Written). w.length ≤ room) (sym {b = written_of table [] [] room} e) fits in
-    omega (arith, length-replicate {A = ℕ} 56 0)
+length_in : (answer : Result ℕ Unwritten) → result_unwrap_or answer 0 ≡ (written_as answer).length
+length_in (Ok size) = refl
+length_in (Err TooMany) = refl
+length_in (Err Uneven) = refl
+length_in (Err (Unwritten.Table rule)) = refl
+length_in (Err (Record index misread)) = refl
+length_in (Err NoRoom) = refl
+
+held : (table : Table) (answer : Result ℕ Unwritten) (room : ℕ) → written_as answer ≡ written_of table [] [] room → result_unwrap_or answer 0 ≤ room
+held table answer room e =
+    let same : result_unwrap_or answer 0 ≡ (written_of table [] [] room).length = length_in answer ∙ ap (λ (w : Written). w.length) e in
+    subst (λ n. n ≤ room) (sym same) (within (first (writable table [] [])) (broken_rule table) (first_wrong 0 [] []) (size_of table []) room)
 
 pub slice_bounds-file-end : goal.slice_bounds-file-end
 slice_bounds-file-end c =
-    let write = c.write-written in
-    let fits = held c.args.table write.result write.ensures.value in
+    let write = c.write in
+    let length_is : c.unwrap_or-length.result ≡ result_unwrap_or write.result 0 = search rules in
+    let fits = held c.args.table write.result _ write.ensures.value in
     omega (arith, write.auto.out)
 
-pub slice_bounds-write_all-end : goal.slice_bounds-write_all-end
-slice_bounds-write_all-end c =
-    let write = c.write-written in
-    let fits = held c.args.table write.result write.ensures.value in
-    let laid : write.result.length ≤ length write.new.out = omega (arith, write.auto.out) in
-    sym (length-take-le write.result.length write.new.out laid)
+pub slice_bounds-write-end-4 : goal.slice_bounds-write-end-4
+slice_bounds-write-end-4 c =
+    let write = c.write in
+    let length_is : c.unwrap_or-length.result ≡ result_unwrap_or write.result 0 = search rules in
+    let fits = held c.args.table write.result _ write.ensures.value in
+    let laid : c.unwrap_or-length.result ≤ length write.new.out = omega (arith, write.auto.out) in
+    sym (length-take-le c.unwrap_or-length.result write.new.out laid)

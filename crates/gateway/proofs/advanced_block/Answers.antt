@@ -2,6 +2,7 @@
 -- Assumes nothing.
 use mathlib.Core.Path.{sym, ap, ◌∙◌}
 use native.Mathlib.Omega.{arith}
+use Rattle.limits.proofs.NumberLaws.{some_number}
 use Rattle.gateway.proofs.Blocks.{admitted, no_record, not_admitted}
 use Rattle.gateway.proofs.advanced_block.Goals as goal
 
@@ -10,16 +11,15 @@ returns-then-records-lt4 c =
     let a = c.args in
     no_record a.table a.state a.records.now (omega arith)
 
-pub returns-then-rule-ne0 : goal.returns-then-rule-ne0
-returns-then-rule-ne0 c =
+pub returns-in-Err : goal.returns-in-Err
+returns-in-Err c =
     let a = c.args in
-    let rule = c.broken_rule-rule in
-    ap (λ k. record { number = 4; rule = k; index = 0; excess = 0; state = a.state }) rule.ensures
-    ∙ not_admitted a.table a.state a.records.now (λ z. c.if-rule-ne0.true (rule.ensures ∙ z)) (omega arith)
+    let broken = c.number.ensures ∙ c.in-Err.ensures in
+    ap (λ k. record { number = 4; rule = k; index = 0; excess = 0; state = a.state }) broken
+    ∙ not_admitted a.table a.state a.records.now (λ z. some_number c.in-Err.rule (c.in-Err.ensures ∙ z)) (omega arith)
 
 pub returns : goal.returns
 returns c =
     let a = c.args in
-    let rule = c.broken_rule-rule in
     c.judge_records.ensures
-    ∙ admitted a.table a.state a.records.now (sym rule.ensures ∙ c.if-rule-ne0.false)
+    ∙ admitted a.table a.state a.records.now (sym c.in_default.ensures)

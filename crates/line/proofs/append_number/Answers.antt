@@ -1,20 +1,18 @@
--- `append_number` meets its contract: what io's `decimal` leaves is `decimal_of`.
+-- `append_number` meets its contract: the digits that itoa leaves are `decimal_of`.
 -- Assumes nothing.
+use mathlib.Core.Path.{◌≡◌}
+use mathlib.Core.List.{[], ◌∷◌, ◌++◌}
 use native.Mathlib.Omega.{arith}
-use lib.ListN.{take}
 use lib.Seq.{append_snoc}
+use Rattle.std.proofs.Common.{rules}
+use Rattle.std.specs.Fmt.{decimal}
 use Rattle.line.specs.Decimals.{decimal_of}
-use Rattle.line.proofs.Decimal.{decimal, few}
+use Rattle.line.proofs.Decimal.{printed}
 use Rattle.line.proofs.append_number.Goals as goal
 
-pub append-requires : goal.append-requires
-append-requires c =
-    omega (arith, few c.args.n c.decimal-k.result c.ranges.n.fits c.decimal-k.ensures.len)
-
-pub returns : goal.returns
-returns c =
-    let digits = c.decimal-k.ensures in record {
-      upper_bound = omega (arith, few c.args.n c.decimal-k.result c.ranges.n.fits digits.len);
-      text_after = rw (c.append.ensures.text_after_2, c.append-from.ensures.text_after_2, digits.digits, decimal c.args.n c.decimal-k.result digits.len)
-          (append_snoc (take c.args.at c.args.text.now) 32 (decimal_of c.args.n));
-    }
+pub returns-clause-text_after : goal.returns-clause-text_after
+returns-clause-text_after c =
+    let space = c.try_extend_from_slice.new.self.items in
+    let one : space ≡ c.args.text.now.items ++ 32 ∷ [] = search rules in
+    let two : c.try_extend_from_slice-2.new.self.items ≡ space ++ decimal c.args.n = search rules in
+    rw (two, one, printed c.args.n (omega (arith, c.ranges.n))) (append_snoc c.args.text.now.items 32 (decimal_of c.args.n))

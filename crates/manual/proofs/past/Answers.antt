@@ -1,4 +1,4 @@
--- `past` meets its contract: a return for a guard before it, one where its flags stand so, and one where they do not.
+-- `past` meets its contract: what was found before stands, else the guard is asked.
 -- Assumes nothing.
 use Rattle.manual.specs.Ticks.{past, past_else}
 use Rattle.manual.proofs.GuardLaws.{before}
@@ -9,11 +9,6 @@ returns-then-before-ne0 c =
     let a = c.args in
     before a.before (past a.flags a.now a.since a.limit) c.if-before-ne0.true
 
-pub returns-then-flags : goal.returns-then-flags
-unfolding past past_else
-returns-then-flags c =
-    rw (c.if-before-ne0.false, c.if-flags.true, c.beyond.ensures, c.bound.ensures)
-
-pub returns-else-flags : goal.returns-else-flags
-unfolding past past_else
-returns-else-flags c = rw (c.if-before-ne0.false, c.if-flags.false)
+pub returns : goal.returns
+unfolding past_else
+returns c = rw c.if-before-ne0.false c.past.ensures

@@ -1,41 +1,31 @@
--- `stage_of` meets its contract: each arm by its order, and past them there is none.
+-- `stage_of` meets its contract: by the device of each order, and none where there is no order.
 -- Assumes nothing.
-use mathlib.Core.Path.{sym}
+use mathlib.Core.Path.{◌≡◌, sym, ◌∙◌}
+use native.Mathlib.Decide.{dec_lt}
+use native.Mathlib.Omega.{arith}
 use lib.ListN.{get_or-eq_default}
-use Rattle.checks.proofs.Ranges.{past_arms}
 use Rattle.manual_reading.specs.Reading.{stage, stages, stage_of}
 use Rattle.manual_reading.proofs.stage_of.Goals as goal
+use Rattle.manual_reading.proofs.stage_of.Goals.{in-1, in-2, in-3, in-4, in-5, in-6}
 
 pub returns-in_default : goal.returns-in_default
 unfolding stage_of
 returns-in_default c =
     let a = c.args in
-    sym (get_or-eq_default (stages a.v a.start) (stage 0 0) {n = a.order} (past_arms 7 a.order c.in_default.in_default-own.rest))
+    elim (dec_lt a.order 7) [
+      | yes h ↦ let none : a.order ≡ 0 = omega arith in rw none
+      | no h ↦ sym (get_or-eq_default (stages a.v a.start) (stage 0 0) {n = a.order} (omega arith))
+    ]
 
-pub returns-in-0 : goal.returns-in-0
+pub returns : goal.returns
 unfolding stage_of
-returns-in-0 c = rw c.in-0.is
-
-pub returns-in-1 : goal.returns-in-1
-unfolding stage_of
-returns-in-1 c = rw (c.in-1.is, c.stage_by.ensures)
-
-pub returns-in-2 : goal.returns-in-2
-unfolding stage_of
-returns-in-2 c = rw (c.in-2.is, c.stage_by-in-2.ensures)
-
-pub returns-in-3 : goal.returns-in-3
-unfolding stage_of
-returns-in-3 c = rw (c.in-3.is, c.stage_by-in-3.ensures)
-
-pub returns-in-4 : goal.returns-in-4
-unfolding stage_of
-returns-in-4 c = rw (c.in-4.is, c.stage_by-in-4.ensures)
-
-pub returns-in-5 : goal.returns-in-5
-unfolding stage_of
-returns-in-5 c = rw (c.in-5.is, c.stage_by-in-5.ensures)
-
-pub returns-in-6 : goal.returns-in-6
-unfolding stage_of
-returns-in-6 c = rw (c.in-6.is, c.stage_by-in-6.ensures)
+returns c =
+    c.stage.ensures
+    ∙ elim c.match-order.branch [
+      | in-1 w ↦ rw (w.device-is, w.in-1.is)
+      | in-2 w ↦ rw (w.device-is, w.in-2.is)
+      | in-3 w ↦ rw (w.device-is, w.in-3.is)
+      | in-4 w ↦ rw (w.device-is, w.in-4.is)
+      | in-5 w ↦ rw (w.device-is, w.in-5.is)
+      | in-6 w ↦ rw (w.device-is, w.in-6.is)
+    ]

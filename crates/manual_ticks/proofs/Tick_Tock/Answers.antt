@@ -1,47 +1,31 @@
--- `Tick_Tock` meets its contract: a return for each number, and one for none, where the clock fits.
+-- `Tick_Tock` meets its contract: a return for each number, and one for none.
 -- Assumes nothing.
-use mathlib.Core.Path.{sym, ◌∙◌}
-use Prim.Native.Nat.{◌+◌}
-use native.Mathlib.Omega.{arith}
-use Rattle.manual.specs.Variables.{pass}
-use Rattle.manual.specs.Ticks.{tick_excess}
-use Rattle.manual.proofs.AnswerLaws.{refuses, accepts}
-use Rattle.manual_ticks.proofs.TickLaws.{past_clock, in_clock, past_stage, in_stage, past_phase, in_phase}
+use mathlib.Core.Path.{◌∙◌}
+use Rattle.manual_ticks.proofs.TickLaws.{clock_passed, stage_passed, phase_passed, none_passed}
 use Rattle.manual_ticks.proofs.Tick_Tock.Goals as goal
 
-pub returns-then-clock-ne0 : goal.returns-then-clock-ne0
-returns-then-clock-ne0 c =
+pub returns-in_default : goal.returns-in_default
+returns-in_default c =
     let a = c.args in
-    let r = past_clock a.table a.v a.tick c.beyond-clock.ensures c.if-clock-ne0.true in
-    refuses 13 c.beyond-clock.result (pass a.tick a.v) a.v r.number r.excess (λ e. omega arith)
+    c.refused.ensures ∙ clock_passed a.table a.v a.tick c.beyond.ensures c.in_default.ensures
 
-pub returns-then-stage-ne0 : goal.returns-then-stage-ne0
-returns-then-stage-ne0 c =
+pub returns-in-Some-stage_limits : goal.returns-in-Some-stage_limits
+returns-in-Some-stage_limits c =
     let a = c.args in
-    let r =
-    in_clock a.table a.v a.tick c.beyond-clock.ensures c.if-clock-ne0.false
-    (past_stage a.table a.v a.tick c.stage_limits-stage.ensures c.if-stage-ne0.true) in
-    refuses 12 c.stage_limits-stage.result (pass a.tick a.v) a.v r.number r.excess (λ e. omega arith)
+    let time = c.in-Some.ensures in
+    c.refused-in-Some-stage_limits.ensures
+    ∙ stage_passed a.table a.v a.tick time.0 c.stage_limits.ensures c.in-Some-stage_limits.is
 
-pub returns-then-phase-ne0 : goal.returns-then-phase-ne0
-returns-then-phase-ne0 c =
+pub returns-in-Some-phase_limits : goal.returns-in-Some-phase_limits
+returns-in-Some-phase_limits c =
     let a = c.args in
-    let r =
-    in_clock a.table a.v a.tick c.beyond-clock.ensures c.if-clock-ne0.false
-    (in_stage a.table a.v a.tick c.stage_limits-stage.ensures c.if-stage-ne0.false
-    (past_phase a.table a.v a.tick c.phase_limits-phase.ensures c.if-phase-ne0.true)) in
-    refuses 11 c.phase_limits-phase.result (pass a.tick a.v) a.v r.number r.excess (λ e. omega arith)
-
-pub overflow_add-after : goal.overflow_add-after
-overflow_add-after c =
-    let zero = sym c.beyond-clock.ensures ∙ c.if-clock-ne0.false in
-    record { fits = omega (arith, zero) }
+    let time = c.in-Some.ensures in
+    c.refused-in-Some-phase_limits.ensures
+    ∙ phase_passed a.table a.v a.tick time.0 c.stage_limits.ensures c.in_default-stage_limits.is c.phase_limits.ensures c.in-Some-phase_limits.is
 
 pub returns : goal.returns
 returns c =
     let a = c.args in
-    let r =
-    in_clock a.table a.v a.tick c.beyond-clock.ensures c.if-clock-ne0.false
-    (in_stage a.table a.v a.tick c.stage_limits-stage.ensures c.if-stage-ne0.false
-    (in_phase a.table a.v a.tick c.phase_limits-phase.ensures c.if-phase-ne0.false)) in
-    accepts (tick_excess a.table a.v (a.v.time + a.tick)) (pass a.tick a.v) a.v (sym r.number)
+    let time = c.in-Some.ensures in
+    c.accepted.ensures
+    ∙ none_passed a.table a.v a.tick time.0 c.stage_limits.ensures c.in_default-stage_limits.is c.phase_limits.ensures c.in_default-phase_limits.is time.1

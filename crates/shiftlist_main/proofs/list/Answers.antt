@@ -33,8 +33,8 @@ slice_bounds-list-end c =
     let fits = held c.args.file.now build.result build.ensures.value in
     omega (arith, build.auto.out)
 
-pub slice_bounds-write_all-end : goal.slice_bounds-write_all-end
-slice_bounds-write_all-end c =
+pub slice_bounds-write-end : goal.slice_bounds-write-end
+slice_bounds-write-end c =
     let build = c.build-listed in
     let fits = held c.args.file.now build.result build.ensures.value in
     let laid : build.result.length ≤ length build.new.out = omega (arith, build.auto.out) in

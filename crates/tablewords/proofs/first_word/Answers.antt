@@ -1,28 +1,31 @@
--- `first_word` meets its contract: the blanks, and the bytes of the word, are counted.
+-- `first_word` meets its contract: blanks, then a word, then the rest.
 -- Assumes nothing.
-use native.Mathlib.Omega.{arith}
-use Rattle.tablewords.specs.declared.Class.TheVariants.{Blank}
-use Rattle.tablewords.proofs.WordLaws.{leading_fits, word_fits, word_is_there, behind_is_there}
+use mathlib.Core.Path.{◌≡◌, ap, ◌∙◌}
+use Prim.Native.Nat.{◌-◌}
+use lib.ListN.{length, take, drop}
+use borrow.Author.Rules.{part_to_end}
+use Rattle.tablewords.specs.declared.Class.TheVariants.{Blank, Letter}
+use Rattle.tablewords.specs.Words.{leading, past}
+use Rattle.tablewords.proofs.WordLaws.{counted, take-leading, drop-leading}
 use Rattle.tablewords.proofs.first_word.Goals as goal
 
-pub overflow_add-result : goal.overflow_add-result
-overflow_add-result c =
+-- what stands behind the blanks, and how long its word is
+text : (c : goal.After-split_at)
+    → take (length c.args.line.now - c.leading-from.result) (drop c.leading-from.result c.args.line.now) ≡ past Blank c.args.line.now
+text c =
     let l = c.args.line.now in
-    let from = c.run-from in
-    omega (arith, word_fits l from.result c.run-size.result from.ensures c.run-size.ensures)
+    let from = c.leading-from in
+    part_to_end l from.result
+    ∙ ap (λ n. drop n l) (counted _ Blank (λ b r h. h) l from.result from.ensures)
+    ∙ drop-leading Blank l
 
-pub returns : goal.returns
-returns c =
-    let l = c.args.line.now in
-    let from = c.run-from in
-    let size = c.run-size in record {
-      from_le_to = (omega arith, word_fits l from.result size.result from.ensures size.ensures);
-      line_value = word_is_there l from.result size.result from.ensures size.ensures;
-      line_value_2 = behind_is_there l from.result size.result from.ensures size.ensures;
-    }
+size : (c : goal.After-split_at) → c.leading-size.result ≡ length (leading Letter (past Blank c.args.line.now))
+size c =
+    let size = c.leading-size in
+    counted _ Letter (λ b r h. h) _ size.result size.ensures ∙ ap (λ l. length (leading Letter l)) (text c)
 
-pub slice_bounds-run-count : goal.slice_bounds-run-count
-slice_bounds-run-count c = omega (arith, leading_fits Blank c.args.line.now)
+pub returns-clause-word : goal.returns-clause-word
+returns-clause-word c = rw (c.split_at.ensures.front, text c, size c) (take-leading Letter (past Blank c.args.line.now))
 
-pub slice_bounds-run-start : goal.slice_bounds-run-start
-slice_bounds-run-start c = omega (arith, leading_fits Blank c.args.line.now)
+pub returns-clause-behind : goal.returns-clause-behind
+returns-clause-behind c = rw (c.split_at.ensures.back, text c, size c) (drop-leading Letter (past Blank c.args.line.now))

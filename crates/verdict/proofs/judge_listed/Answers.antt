@@ -4,22 +4,21 @@ use Prim.Native.Nat.{◌+◌, ◌/◌, ◌≤◌, ◌<◌}
 use mathlib.Core.Path.{◌≡◌, refl, sym, ap, subst, ◌∙◌}
 use native.Mathlib.Omega.{arith}
 use lib.ListN.{length}
+use Rattle.std.specs.Prelude.{Ok}
 use Rattle.checks.specs.Checks.{first}
 use Rattle.checks.proofs.Checks.{first→holds}
 use Rattle.limits.specs.Limits.{table_of}
 use Rattle.phases.specs.Phases.{order_of, device_limit}
 use Rattle.shift.specs.declared.State.{State}
 use Rattle.shift.specs.declared.Answer.{Answer}
-use Rattle.shift.specs.declared.Reading.TheVariants.{Means}
 use Rattle.shift.specs.Steps.{allowed, ticked, effect}
-use Rattle.shift.specs.Answers.{listed}
+use Rattle.shift.specs.Answers.{refusal, listed}
 use Rattle.shift.proofs.ListedLaws.{led_to}
 use Rattle.deadlines.specs.Deadlines.{phase_end_of, deadline, late_by, over_by}
 use Rattle.deadlines.proofs.DeadlineLaws.{fits, keeps}
 use Rattle.verdict.specs.Verdicts.{of_run}
 use Rattle.verdict.proofs.Judging.{all_left}
 use Rattle.verdict.proofs.Standing.{Stands, Kept, kept, stops, leads, no_step_stops, as_step, tick_leads, tick_stops, ends}
-use borrow.Enum.Refused.{opened}
 use Rattle.verdict.proofs.judge_listed.Goals as goal
 use Rattle.verdict.proofs.judge_listed.Goals.{then-enters, else-enters}
 
@@ -53,8 +52,8 @@ returns-in_default c =
     let a = c.args in
     let read = c.record_at-reading in
     c.answered.ensures
-    ∙ ap (λ k. of_run (record { count = l.index; number = k; excess = 0; state = l.state })) c.refusal.ensures
-    ∙ no_step_stops a.table a.records.now a.begin _ l.state l.index l.invariant.0 c.loop-index-test.true read.result read.ensures (opened c.in_default.in_default-own.keys2)
+    ∙ ap (λ k. of_run (record { count = l.index; number = k; excess = 0; state = l.state })) (c.refusal.ensures ∙ ap refusal c.in_default.is)
+    ∙ no_step_stops a.table a.records.now a.begin _ l.state l.index l.invariant.0 c.loop-index-test.true c.in_default.field-0 (sym read.ensures ∙ c.in_default.is)
 
 pub returns-then-number-ne0 : goal.returns-then-number-ne0
 returns-then-number-ne0 c =
@@ -62,9 +61,9 @@ returns-then-number-ne0 c =
     let a = c.args in
     let t = a.table in
     let more = c.loop-index-test.true in
-    let is_x = sym c.record_at-reading.ensures ∙ c.in-Means.is in
+    let is_x = sym c.record_at-reading.ensures ∙ c.in-Ok.is in
     let answer = c.judged_step-answer in
-    let here = answer.ensures ∙ as_step t a.records.now a.begin _ l.state l.index l.invariant.0 more c.in-Means.x is_x in
+    let here = answer.ensures ∙ as_step t a.records.now a.begin _ l.state l.index l.invariant.0 more c.in-Ok.x is_x in
     c.answered-then-number-ne0.ensures
     ∙ stops t a.records.now a.begin _ l.state l.index l.invariant.0 more answer.result here c.if-number-ne0.true
 
@@ -76,8 +75,8 @@ loop-index-preserved-in_default-x c =
     let s = l.state in
     let same = l.invariant.2 in
     let more = c.loop-index-test.true in
-    let x = c.in-Means.x in
-    let is_x = sym c.record_at-reading.ensures ∙ c.in-Means.is in
+    let x = c.in-Ok.x in
+    let is_x = sym c.record_at-reading.ensures ∙ c.in-Ok.is in
     let answer = c.judged_step-answer in
     let next = answer.result.state in
     let none = c.if-number-ne0.false in
@@ -115,7 +114,7 @@ returns-then-deadline-clock c =
     let more = c.loop-index-test.true in
     let n = c.in-Tick.amount in
     let is-tick =
-    sym c.record_at-reading.ensures ∙ c.in-Means.is ∙ ap Means c.in-Tick.is
+    sym c.record_at-reading.ensures ∙ c.in-Ok.is ∙ ap Ok c.in-Tick.is
     in
     let later = c.later-clock in
     let late : deadline t s < s.clock + n =
@@ -161,7 +160,7 @@ loop-index-preserved c =
     let more = c.loop-index-test.true in
     let n = c.in-Tick.amount in
     let is-tick =
-    sym c.record_at-reading.ensures ∙ c.in-Means.is ∙ ap Means c.in-Tick.is
+    sym c.record_at-reading.ensures ∙ c.in-Ok.is ∙ ap Ok c.in-Tick.is
     in
     let later = c.later-clock in
     let until : s.clock + n ≤ deadline t s =
@@ -181,7 +180,11 @@ pub returns : goal.returns
 returns c =
     let l = c.loop-index in
     let a = c.args in
-    c.answered-2.ensures ∙ ends a.table a.records.now a.begin _ l.state l.index l.invariant.0 c.loop-index-test.false
+    let within = l.invariant.0.within in
+    let all : length a.records.now / 4 ≡ l.index = omega arith in
+    c.answered-2.ensures
+    ∙ ap (λ k. of_run (record { count = k; number = 0; excess = 0; state = l.state })) all
+    ∙ ends a.table a.records.now a.begin _ l.state l.index l.invariant.0 c.loop-index-test.false
 
 pub overflow_mul-index : goal.overflow_mul-index
 overflow_mul-index c = let w = c.loop-index.invariant.0.whole in omega arith
@@ -190,25 +193,7 @@ pub record_at-reading-requires : goal.record_at-reading-requires
 record_at-reading-requires c = let w = c.loop-index.invariant.0.whole in omega arith
 
 pub enum_known-reading : goal.enum_known-reading
-enum_known-reading c = c.in-Means.in-Means-own.keys1
+enum_known-reading c = c.in-Ok.in-Ok-own.keys1
 
 pub enum_known-x : goal.enum_known-x
 enum_known-x c = c.in-Tick.in-Tick-own.keys1
-
-pub overflow_add-index : goal.overflow_add-index
-overflow_add-index c =
-    let most = c.loop-index.invariant.0.most in
-    let more = c.loop-index-test.true in
-    record { fits = omega arith }
-
-pub loop-index-smaller-in_default-x : goal.loop-index-smaller-in_default-x
-loop-index-smaller-in_default-x c = let more = c.loop-index-test.true in omega arith
-
-pub overflow_add-index-in-loop-index : goal.overflow_add-index-in-loop-index
-overflow_add-index-in-loop-index c =
-    let most = c.loop-index.invariant.0.most in
-    let more = c.loop-index-test.true in
-    record { fits = omega arith }
-
-pub loop-index-smaller : goal.loop-index-smaller
-loop-index-smaller c = let more = c.loop-index-test.true in omega arith

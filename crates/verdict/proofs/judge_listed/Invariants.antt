@@ -1,6 +1,5 @@
 -- `judge_listed` meets its contract: before every record the loop stands where those accepted so far lead, and keeps its state's deadline.
 -- Assumes nothing.
-use Prim.Native.Nat.{◌-◌}
 use mathlib.Core.Path.{◌≡◌}
 use Rattle.limits.specs.Limits.{entries}
 use Rattle.verdict.proofs.Standing.{Stands, Kept}
@@ -11,6 +10,3 @@ invariant-loop-index l =
     Stands l.table l.records l.initial.state l.count l.state l.index
     × Kept l.table l.state l.phase_end l.device l.deadline
     × (l.limits ≡ entries l.table)
-
-abbrev pub decreases-loop-index : goal.decreases-loop-index
-decreases-loop-index l = l.count - l.index

@@ -1,18 +1,19 @@
 -- `Step::of_head` meets its contract: a tick with a good middle byte, each arm by its number, and what is left is no step.
 -- Assumes nothing.
-use mathlib.Core.Path.{◌∙◌}
+use mathlib.Core.Path.{ap, ◌∙◌}
+use Rattle.std.specs.Prelude.{Err}
 use Rattle.shift.proofs.HeadLaws.{no_tick, no_arm}
 use Rattle.shift.proofs.Step.of_head.Goals as goal
 
 pub returns-then-amount-ne0 : goal.returns-then-amount-ne0
 returns-then-amount-ne0 c =
     let a = c.args in
-    c.wrong.ensures ∙ no_tick a.head a.amount c.if-head-eq12.false c.if-amount-ne0.true
+    ap Err c.wrong.ensures ∙ no_tick a.head a.amount c.if-head-eq12.false c.if-amount-ne0.true
 
 pub returns-in_default : goal.returns-in_default
 returns-in_default c =
     let a = c.args in
-    c.wrong-in_default.ensures ∙ no_arm a.head a.amount c.if-amount-ne0.false c.in_default.in_default-own.rest
+    ap Err c.wrong-in_default.ensures ∙ no_arm a.head a.amount c.if-amount-ne0.false c.in_default.in_default-own.rest
 
 pub returns-then-head-eq12 : goal.returns-then-head-eq12
 returns-then-head-eq12 c = rw c.if-head-eq12.true c.ticking.ensures

@@ -1,8 +1,0 @@
--- `first_of_3` meets its contract: by what its calls ensure.
--- Assumes nothing.
-use mathlib.Core.Path.{refl, ◌∙◌}
-use Rattle.manual_engine.proofs.ChainLaws.{◌then◌}
-use Rattle.manual_engine.proofs.first_of_3.Goals as goal
-
-pub returns : goal.returns
-returns c = c.or_else-2.ensures ∙ (refl then c.or_else.ensures)

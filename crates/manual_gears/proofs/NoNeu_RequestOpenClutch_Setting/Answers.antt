@@ -1,7 +1,0 @@
--- `NoNeu_RequestOpenClutch_Setting` meets its contract: by what its calls ensure.
--- Assumes nothing.
-
-use Rattle.manual_gears.proofs.NoNeu_RequestOpenClutch_Setting.Goals as goal
-
-pub returns : goal.returns
-returns c = rw (c.early_by-excess.ensures, c.early-number.ensures)

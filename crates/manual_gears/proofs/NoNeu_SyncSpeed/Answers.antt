@@ -1,7 +1,0 @@
--- `NoNeu_SyncSpeed` meets its contract: by what its calls ensure.
--- Assumes nothing.
-
-use Rattle.manual_gears.proofs.NoNeu_SyncSpeed.Goals as goal
-
-pub returns : goal.returns
-returns c = rw (c.late_by-excess.ensures, c.late-number.ensures)

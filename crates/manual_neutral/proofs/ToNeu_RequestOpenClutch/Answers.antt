@@ -1,7 +1,0 @@
--- `ToNeu_RequestOpenClutch` meets its contract: by what its calls ensure.
--- Assumes nothing.
-
-use Rattle.manual_neutral.proofs.ToNeu_RequestOpenClutch.Goals as goal
-
-pub returns : goal.returns
-returns c = rw (c.early_by-excess.ensures, c.early-number.ensures)
