@@ -520,13 +520,28 @@ def code_ticks(text):
     yield "Tick_Tock: the clock's end", f"{last}, else {number}"
 
 
+# What the events and Tick_Tock are answered by: the bodies of the constructors that they name.
+ANSWERS = {
+    "free": "Event { enabled, number: 0, excess: 0, after, }",
+    "accepted": "Moved { number: 0, rule: 0, excess: 0, variables, }",
+    "refused": "Moved { number, rule: 0, excess, variables, }",
+}
+
 # What a variable is by Default.
 DEFAULTS = {"bool": "false", "u32": "0"}
 
 
+def method(text, name):
+    """The body of a public method."""
+    return re.search(rf"^    pub fn {name}\(.*?\n    \{{\n(.*?)\n    \}}", text, re.DOTALL | re.MULTILINE).group(1)
+
+
 def code_facts(texts):
     """The facts of the code."""
-    erred = re.search(r"    pub fn erred\(&self\).*?\n    \{\n(.*?)\n    \}", texts[STRUCT], re.DOTALL).group(1)
+    erred = method(texts[STRUCT], "erred")
+    for name, says in ANSWERS.items():
+        if plain(method(texts[STRUCT], name)) != says:
+            raise Unread(f"{name}: what it answers can't be read")
     for crate, file in EVENT_CODE.items():
         functions = functions_in(texts[file])
         yield f"the events of {crate} in order", " ".join(name for name, _ in functions)

@@ -1,12 +1,12 @@
 -- What is laid on a page.
-use Rattle.std.specs.Prelude.{ℕ, List, ◌++◌, replicate, IsOk, OnOk}
+use Rattle.std.specs.Prelude.{ℕ, List, ◌++◌, take, replicate, IsOk, OnOk}
 use Rattle.std.specs.declared.option.Option.{Option}
 use Rattle.std.specs.Io.KnownBytes.{Appends, append_known}
 use Rattle.columns.specs.declared.page.Page.{Page}
 
 -- the bytes that its writer holds and those of its text, where they are known
 abbrev pub laid : {W : Type 0} → (W → Option (List ℕ)) → Page W → Option (List ℕ)
-laid contents page = append_known (contents page.out) page.text.items
+laid contents page = append_known (contents page.out) (take page.used page.text)
 
 -- the spaces that a further cell of the row has before it
 abbrev pub owed : {W : Type 0} → Page W → ℕ

@@ -6,7 +6,6 @@ ghost use Rattle.std.specs.Prelude.{◌≡◌, ◌+◌, ◌-◌, ◌<◌, [], �
 ghost use Rattle.std.specs.Io.KnownBytes.{Keeps};
 ghost use Rattle.columns.specs.Laid.{laid, owed, Lays, behind_spaces};
 
-use arrayvec::ArrayVec;
 use itoa::{Buffer, Integer};
 use output::Unwritten;
 use std::io::Write;
@@ -23,7 +22,8 @@ impl<W: Write> Page<W> {
     {
         Page {
             out,
-            text: ArrayVec::new(),
+            text: [0; 4096],
+            used: 0,
             owed: 0,
             written: Ok(()),
         }
@@ -113,22 +113,23 @@ impl<W: Write> Page<W> {
         ensures lays { Lays W.contents self.old self.new (byte ∷ []) }
         ensures owed { owed self.new ≡ owed self.old }
     {
-        if self.text.is_full() {
+        if self.used == self.text.len() {
             self.flush();
         }
-        self.text.try_push(byte).unwrap();
+        self.text[self.used] = byte;
+        self.used += 1;
     }
 
     // Writes the text, if all before it was written.
     fn flush(&mut self)
-        ensures empty { self.new.text.items ≡ [] }
+        ensures empty { self.new.used ≡ 0 }
         ensures lays { Lays W.contents self.old self.new [] }
         ensures owed { owed self.new ≡ owed self.old }
     {
         if self.written.is_ok() {
-            self.written = output::write(&mut self.out, self.text.as_slice());
+            self.written = output::write(&mut self.out, &self.text[..self.used]);
         }
-        self.text.clear();
+        self.used = 0;
     }
 }
 

@@ -21,15 +21,15 @@ trait Engine: Copy {
     fn start() -> Self;
 
     // Its answer to a record's four bytes, on what it has kept.
-    fn advanced(self, table: Table, record: [u8; 4]) -> Self;
+    fn advanced(&self, table: Table, record: [u8; 4]) -> Self;
 
-    fn number(self) -> u8;
+    fn number(&self) -> u8;
 
-    fn rule(self) -> u8;
+    fn rule(&self) -> u8;
 
-    fn excess(self) -> u64;
+    fn excess(&self) -> u64;
 
-    fn print_kept(self, line: &mut Line<impl Write>);
+    fn print_kept(&self, line: &mut Line<impl Write>);
 }
 
 // The manual's engine, from INITIALISATION.
@@ -38,25 +38,25 @@ impl Engine for Moved {
         Moved::accepted(Variables::initialisation())
     }
 
-    fn advanced(self, table: Table, record: [u8; 4]) -> Moved {
+    fn advanced(&self, table: Table, record: [u8; 4]) -> Moved {
         let [code, middle, low, high] = record;
         let amount = u32::from(u16::from_le_bytes([low, high]));
         manual_engine::step(self.variables, table, code, middle, amount)
     }
 
-    fn number(self) -> u8 {
+    fn number(&self) -> u8 {
         self.number
     }
 
-    fn rule(self) -> u8 {
+    fn rule(&self) -> u8 {
         self.rule
     }
 
-    fn excess(self) -> u64 {
+    fn excess(&self) -> u64 {
         self.excess
     }
 
-    fn print_kept(self, line: &mut Line<impl Write>) {
+    fn print_kept(&self, line: &mut Line<impl Write>) {
         line.flags(&flags(self.variables));
         for time in times(self.variables) {
             line.number(time);
@@ -76,24 +76,24 @@ impl Engine for Answer {
         }
     }
 
-    fn advanced(self, table: Table, record: [u8; 4]) -> Answer {
+    fn advanced(&self, table: Table, record: [u8; 4]) -> Answer {
         let [code, middle, low, high] = record;
         gateway::advanced(self.state, table, code, middle, low, high)
     }
 
-    fn number(self) -> u8 {
+    fn number(&self) -> u8 {
         self.number
     }
 
-    fn rule(self) -> u8 {
+    fn rule(&self) -> u8 {
         self.rule
     }
 
-    fn excess(self) -> u64 {
+    fn excess(&self) -> u64 {
         self.excess
     }
 
-    fn print_kept(self, line: &mut Line<impl Write>) {
+    fn print_kept(&self, line: &mut Line<impl Write>) {
         line.state(self.state);
     }
 }

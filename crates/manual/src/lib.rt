@@ -5,7 +5,7 @@ ghost use Rattle.std.specs.Prelude.{◌≡◌, cond, ◌+◌, ◌-◌, leb, map,
 ghost use Rattle.std.specs.List.{find};
 ghost use Rattle.manual.specs.Variables.{initialisation};
 ghost use Rattle.manual.specs.Reset.{erred};
-ghost use Rattle.manual.specs.Events.{free, or_else, first_of};
+ghost use Rattle.manual.specs.Events.{free, or_else};
 ghost use Rattle.manual.specs.Ticks.{past, past_at, past_else};
 ghost use Rattle.manual.specs.Answers.{accepted, refused};
 
@@ -243,15 +243,6 @@ pub fn or_else(a: Event, b: Event) -> Event
     ensures { result ≡ or_else a b }
 {
     if a.enabled { a } else { b }
-}
-
-// The first of some events that is enabled, the last where none is.
-pub fn first_of(first: Event, others: &[Event]) -> Event
-    ensures { result ≡ first_of first others.now }
-{
-    others
-        .iter()
-        .fold(first, |found, event| or_else(found, *event))
 }
 
 impl Guard {

@@ -8,49 +8,50 @@ ghost use Rattle.manual.specs.Steps.{deliver, device_good, device_failed, engine
 ghost use Rattle.manual.specs.Answers.{move_to, moved, moved_on};
 
 use limits::Table;
-use manual::{Event, Moved, Variables, first_of, or_else};
+use manual::{Event, Moved, Variables, or_else};
 use shift::{Step, refusal};
+
+// The first of some events that is enabled, the last where none is. It takes them one by one: those of an array would all be laid there
+// before one is asked.
+macro_rules! first_of {
+    ($event:expr $(,)?) => { $event };
+    ($event:expr, $($others:expr),+ $(,)?) => { or_else($event, first_of!($($others),+)) };
+}
 
 fn deliver(v: Variables) -> Event
     ensures { result ≡ deliver v }
 {
-    first_of(
+    first_of!(
         manual_devices::Engine_Request_SyncSpeed(v),
-        &[
-            manual_devices::Engine_Request_ZeroTorque(v),
-            manual_devices::Clutch_Request_Open(v),
-            manual_devices::Clutch_Request_Close(v),
-            manual_devices::Gear_Request_Release(v),
-            manual_devices::Gear_Request_Set(v),
-        ],
+        manual_devices::Engine_Request_ZeroTorque(v),
+        manual_devices::Clutch_Request_Open(v),
+        manual_devices::Clutch_Request_Close(v),
+        manual_devices::Gear_Request_Release(v),
+        manual_devices::Gear_Request_Set(v),
     )
 }
 
 fn device_good(v: Variables, table: Table) -> Event
     ensures { result ≡ device_good table v }
 {
-    first_of(
+    first_of!(
         manual_devices::Engine_SyncSpeed(v),
-        &[
-            manual_devices::Engine_ZeroTorque(v),
-            manual_devices::Clutch_Open(v, table),
-            manual_devices::Clutch_Close(v, table),
-            manual_devices::Gear_Release(v),
-            manual_devices::Gear_Set(v),
-        ],
+        manual_devices::Engine_ZeroTorque(v),
+        manual_devices::Clutch_Open(v, table),
+        manual_devices::Clutch_Close(v, table),
+        manual_devices::Gear_Release(v),
+        manual_devices::Gear_Set(v),
     )
 }
 
 fn device_failed(v: Variables, table: Table) -> Event
     ensures { result ≡ device_failed table v }
 {
-    first_of(
+    first_of!(
         manual_devices::Error_Clutch_Open(v, table),
-        &[
-            manual_devices::Error_Clutch_Close(v, table),
-            manual_devices::Error_Gear_Release(v),
-            manual_devices::Error_Gear_Set(v),
-        ],
+        manual_devices::Error_Clutch_Close(v, table),
+        manual_devices::Error_Gear_Release(v),
+        manual_devices::Error_Gear_Set(v),
     )
 }
 
@@ -66,123 +67,111 @@ fn engine_waits(v: Variables) -> Event
 fn take_from_neutral(v: Variables, table: Table) -> Event
     ensures { result ≡ take_from_neutral table v }
 {
-    first_of(
+    first_of!(
         manual_neutral::FromNeu_SyncSpeed(v, table),
-        &[
-            manual_neutral::FromNeu_OpenClutch(v),
-            manual_neutral::FromNeu_SetGear_NoClutch(v),
-            manual_neutral::FromNeu_SetGear_Clutch(v),
-            manual_neutral::FromNeu_CloseClutch(v),
-        ],
+        manual_neutral::FromNeu_OpenClutch(v),
+        manual_neutral::FromNeu_SetGear_NoClutch(v),
+        manual_neutral::FromNeu_SetGear_Clutch(v),
+        manual_neutral::FromNeu_CloseClutch(v),
     )
 }
 
 fn take_to_neutral(v: Variables, table: Table) -> Event
     ensures { result ≡ take_to_neutral table v }
 {
-    first_of(
+    first_of!(
         manual_neutral::ToNeu_ZeroTorque(v, table),
-        &[
-            manual_neutral::ToNeu_OpenClutch(v),
-            manual_neutral::ToNeu_Release_NoClutch(v),
-            manual_neutral::ToNeu_Release_Clutch(v),
-            manual_neutral::ToNeu_CloseClutch(v),
-        ],
+        manual_neutral::ToNeu_OpenClutch(v),
+        manual_neutral::ToNeu_Release_NoClutch(v),
+        manual_neutral::ToNeu_Release_Clutch(v),
+        manual_neutral::ToNeu_CloseClutch(v),
     )
 }
 
 fn take_gear_to_gear(v: Variables, table: Table) -> Event
     ensures { result ≡ take_gear_to_gear table v }
 {
-    first_of(
+    first_of!(
         manual_gears::NoNeu_ZeroTorque(v, table),
-        &[
-            manual_gears::NoNeu_OpenClutch_Releasing(v),
-            manual_gears::NoNeu_Release_NoClutch(v),
-            manual_gears::NoNeu_Release_Clutch(v),
-            manual_gears::NoNeu_SyncSpeed(v, table),
-            manual_gears::NoNeu_OpenClutch_Setting(v),
-            manual_gears::NoNeu_SetGear_NoClutch(v),
-            manual_gears::NoNeu_SetGear_ReleasingClutch(v),
-            manual_gears::NoNeu_SetGear_SettingClutch(v),
-            manual_gears::NoNeu_CloseClutch_Setting(v),
-            manual_gears::NoNeu_CloseClutch_Releasing(v),
-        ],
+        manual_gears::NoNeu_OpenClutch_Releasing(v),
+        manual_gears::NoNeu_Release_NoClutch(v),
+        manual_gears::NoNeu_Release_Clutch(v),
+        manual_gears::NoNeu_SyncSpeed(v, table),
+        manual_gears::NoNeu_OpenClutch_Setting(v),
+        manual_gears::NoNeu_SetGear_NoClutch(v),
+        manual_gears::NoNeu_SetGear_ReleasingClutch(v),
+        manual_gears::NoNeu_SetGear_SettingClutch(v),
+        manual_gears::NoNeu_CloseClutch_Setting(v),
+        manual_gears::NoNeu_CloseClutch_Releasing(v),
     )
 }
 
 fn take(v: Variables, table: Table) -> Event
     ensures { result ≡ take table v }
 {
-    first_of(
+    first_of!(
         take_from_neutral(v, table),
-        &[take_to_neutral(v, table), take_gear_to_gear(v, table)],
+        take_to_neutral(v, table),
+        take_gear_to_gear(v, table),
     )
 }
 
 fn ask_clutch(v: Variables, table: Table) -> Event
     ensures { result ≡ ask_clutch table v }
 {
-    first_of(
+    first_of!(
         manual_neutral::FromNeu_RequestOpenClutch(v, table),
-        &[
-            manual_neutral::ToNeu_RequestOpenClutch(v, table),
-            manual_gears::NoNeu_RequestOpenClutch_Releasing(v, table),
-            manual_gears::NoNeu_RequestOpenClutch_Setting(v, table),
-        ],
+        manual_neutral::ToNeu_RequestOpenClutch(v, table),
+        manual_gears::NoNeu_RequestOpenClutch_Releasing(v, table),
+        manual_gears::NoNeu_RequestOpenClutch_Setting(v, table),
     )
 }
 
 fn error_from_neutral(v: Variables) -> Event
     ensures { result ≡ error_from_neutral v }
 {
-    first_of(
+    first_of!(
         manual_neutral::Error_FromNeu_OpenClutch(v),
-        &[
-            manual_neutral::Error_FromNeu_SetGear_NoClutch(v),
-            manual_neutral::Error_FromNeu_SetGear_Clutch(v),
-            manual_neutral::Error_FromNeu_CloseClutch(v),
-        ],
+        manual_neutral::Error_FromNeu_SetGear_NoClutch(v),
+        manual_neutral::Error_FromNeu_SetGear_Clutch(v),
+        manual_neutral::Error_FromNeu_CloseClutch(v),
     )
 }
 
 fn error_to_neutral(v: Variables) -> Event
     ensures { result ≡ error_to_neutral v }
 {
-    first_of(
+    first_of!(
         manual_neutral::Error_ToNeu_OpenClutch(v),
-        &[
-            manual_neutral::Error_ToNeu_Release_NoClutch(v),
-            manual_neutral::Error_ToNeu_Release_Clutch(v),
-            manual_neutral::Error_ToNeu_CloseClutch(v),
-        ],
+        manual_neutral::Error_ToNeu_Release_NoClutch(v),
+        manual_neutral::Error_ToNeu_Release_Clutch(v),
+        manual_neutral::Error_ToNeu_CloseClutch(v),
     )
 }
 
 fn error_gear_to_gear(v: Variables) -> Event
     ensures { result ≡ error_gear_to_gear v }
 {
-    first_of(
+    first_of!(
         manual_gears::Error_NoNeu_OpenClutch_Releasing(v),
-        &[
-            manual_gears::Error_NoNeu_Release_NoClutch(v),
-            manual_gears::Error_NoNeu_Release_Clutch(v),
-            manual_gears::Error_NoNeu_OpenClutch_Setting(v),
-            manual_gears::Error_NoNeu_SetGear_NoClutch(v),
-            manual_gears::Error_NoNeu_SetGear_ReleasingClutch(v),
-            manual_gears::Error_NoNeu_SetGear_SettingClutch(v),
-            manual_gears::Error_NoNeu_CloseClutch_Setting(v),
-            manual_gears::Error_NoNeu_CloseClutch_Releasing(v),
-        ],
+        manual_gears::Error_NoNeu_Release_NoClutch(v),
+        manual_gears::Error_NoNeu_Release_Clutch(v),
+        manual_gears::Error_NoNeu_OpenClutch_Setting(v),
+        manual_gears::Error_NoNeu_SetGear_NoClutch(v),
+        manual_gears::Error_NoNeu_SetGear_ReleasingClutch(v),
+        manual_gears::Error_NoNeu_SetGear_SettingClutch(v),
+        manual_gears::Error_NoNeu_CloseClutch_Setting(v),
+        manual_gears::Error_NoNeu_CloseClutch_Releasing(v),
     )
 }
 
 fn raise_error(v: Variables) -> Event
     ensures { result ≡ raise_error v }
 {
-    first_of(
+    first_of!(
         error_from_neutral(v),
-        &[error_to_neutral(v), error_gear_to_gear(v)],
+        error_to_neutral(v),
+        error_gear_to_gear(v),
     )
 }
 

@@ -4,7 +4,7 @@
 // it may be called, and no public function asks for anything (CONTRIBUTING.md, "Total and exact").
 #![tactic(auto)]
 
-ghost use Rattle.std.specs.Prelude.{◌≡◌, ◌≢◌, ◌↔◌, ◌≤◌, length, Err, IsErrOf, OnOk};
+ghost use Rattle.std.specs.Prelude.{◌≡◌, ◌≢◌, ◌↔◌, ◌≤◌, length, Err, IsOk, IsErrOf, IfErr, OnOk};
 ghost use Rattle.std.specs.Io.KnownBytes.{Appends};
 ghost use Rattle.std.specs.declared.io.ErrorKind.TheVariants.{BrokenPipe};
 ghost use Rattle.std.specs.IoError.{error_kind};
@@ -49,12 +49,19 @@ pub fn status(written: Result<(), Unwritten>) -> ExitCode
     }
 }
 
+// How writing ended.
+pub fn ended(written: io::Result<()>) -> Result<(), Unwritten>
+    ensures whole { IsOk written ↔ IsOk result }
+    ensures unread { IfErr written (λ e. (error_kind e ≡ BrokenPipe) ↔ IsErrOf result NobodyReads) }
+{
+    Ok(written?)
+}
+
 // Writes these bytes.
 pub fn write<W: Write>(writer: &mut W, bytes: &[u8]) -> Result<(), Unwritten>
     ensures { OnOk result (Appends (W.contents writer.old) (W.contents writer.new) bytes.now) }
 {
-    writer.write_all(bytes)?;
-    Ok(())
+    ended(writer.write_all(bytes))
 }
 
 // Writes the line of its verdict.

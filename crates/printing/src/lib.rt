@@ -33,6 +33,17 @@ impl<W> Line<W> {
     {
         self.closed
     }
+
+    // Notes whether a write found that.
+    fn note<T>(&mut self, written: &io::Result<T>)
+        ensures { self.new.writer ≡ self.old.writer }
+    {
+        if let Err(error) = written
+            && error.kind() == ErrorKind::BrokenPipe
+        {
+            self.closed = true;
+        }
+    }
 }
 
 impl<W: Write> Write for Line<W> {
@@ -40,11 +51,14 @@ impl<W: Write> Write for Line<W> {
 
     fn write(&mut self, bytes: &[u8]) -> io::Result<usize> {
         let written = self.writer.write(bytes);
-        if let Err(error) = &written
-            && error.kind() == ErrorKind::BrokenPipe
-        {
-            self.closed = true;
-        }
+        self.note(&written);
+        written
+    }
+
+    // By its writer's own, where std's would go through `write` for each part: a line may be the writer of another.
+    fn write_all(&mut self, bytes: &[u8]) -> io::Result<()> {
+        let written = self.writer.write_all(bytes);
+        self.note(&written);
         written
     }
 

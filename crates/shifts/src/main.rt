@@ -29,36 +29,39 @@ fn main(rt: HostRuntime) -> ExitCode {
     let mut list = [0u8; 261961];
     let written = match input::read_all(&mut rt.stdin(), &mut list) {
         Ok(count) => show(rt.stdout(), rt.stderr(), &list[..count]),
-        Err(_) => output::write(
-            &mut rt.stderr(),
-            b"shifts: standard input could not be read\n",
-        ),
+        Err(_) => say(rt.stderr(), b"standard input could not be read"),
     };
     output::status(written)
 }
 
+// A sentence on standard error, in three writes of which each is tried, and how the last one ended.
+fn say(mut err: Stderr, words: &[u8]) -> Result<(), Unwritten> {
+    let _ = output::write(&mut err, b"shifts: ");
+    let _ = output::write(&mut err, words);
+    output::write(&mut err, b"\n")
+}
+
 // The table, or why there is none; 14 is a list without a first shift. It answers how the last writing ended.
-fn show(mut out: Stdout, mut err: Stderr, list: &[u8]) -> Result<(), Unwritten> {
+fn show(mut out: Stdout, err: Stderr, list: &[u8]) -> Result<(), Unwritten> {
     // The number is document 02's: munasirel_fetch hands it to C.
     let written = match shiftlist::fetch(list, 0).number {
         0 => table(out, list),
-        number @ 1..=3 => return output::write(&mut err, refused(number)),
+        number @ 1..=3 => return say(err, refused(number)),
         _ => output::write(&mut out, b"no shifts\n"),
     };
-    output::tell(
-        &mut err,
-        written,
-        b"shifts: the table could not be written\n",
-    )
+    match written {
+        Err(Unwritten::Part) => say(err, b"the table could not be written"),
+        _ => written,
+    }
 }
 
 // Why a list is refused with 1 to 3.
 fn refused(number: u8) -> &'static [u8] {
     match number {
-        1 => b"shifts: the list is refused with 1: it has fewer than 8 bytes\n",
-        2 => b"shifts: the list is refused with 2: the offset of its first entry is not 8\n",
+        1 => b"the list is refused with 1: it has fewer than 8 bytes",
+        2 => b"the list is refused with 2: the offset of its first entry is not 8",
         _ =>
-            b"shifts: the list is refused with 3: its length is not 8 bytes and 16 for each shift that it counts\n",
+            b"the list is refused with 3: its length is not 8 bytes and 16 for each shift that it counts",
     }
 }
 

@@ -21,7 +21,7 @@ module _ {F : Type 0} (g : Mut F (ℕ × Unit {0}) ℕ) (f : F) (v : ℕ → ℕ
       let at : i + suc k ≡ (i + 1) + k = omega arith in
       rw at (places ys (i + 1) n (subst (λ (p : F). IsFromFnResultFrom g p ys (i + 1) n) it.1 rest) k (omega arith))
 
-filled : (read : ℕ → ℕ) (step at n : ℕ) (l : List ℕ) → length l ≡ n → ((k : ℕ) → k < n → get_or l k 0 ≡ read (at + step * k)) → l ≡ numbers_at read step at n
+pub filled : (read : ℕ → ℕ) (step at n : ℕ) (l : List ℕ) → length l ≡ n → ((k : ℕ) → k < n → get_or l k 0 ≡ read (at + step * k)) → l ≡ numbers_at read step at n
 filled read step at zero [] long each = refl
 filled read step at zero (x ∷ l) long each = absurd (omega arith)
 filled read step at (suc n) [] long each = absurd (omega arith)

@@ -1,7 +1,7 @@
 // What a case of each kind is answered by: its line.
 
 use crate::cases::Case;
-use crate::fields::{amounts_at, state_in, table_at, usize_at};
+use crate::fields::{read_amounts, state_in, table_at, usize_at};
 use crate::kinds::Kind;
 use limits::Table;
 use numbers::{byte_at, u32_at};
@@ -107,9 +107,10 @@ impl Case<'_> {
     fn write(&mut self, line: &mut Line<impl Write>) {
         let wish = (byte_at(self.a, 0) != 0).then(|| table_at(self.a, 1));
         // Room for those of the longest field, so that nothing is allocated for them.
-        let amounts: [u32; 16491] = amounts_at(self.a, 45);
-        let count = self.a.len().saturating_sub(45) / 4;
-        let written = stepfile::write::write(wish, self.b, &amounts[..count], self.c);
+        let mut room = [0; 16491];
+        let amounts = &mut room[..self.a.len().saturating_sub(45) / 4];
+        read_amounts(self.a, 45, amounts);
+        let written = stepfile::write::write(wish, self.b, amounts, self.c);
         let (number, rule, index) = match written {
             Ok(_) => (0, 0, 0),
             Err(unwritten) => (unwritten.number(), unwritten.rule(), unwritten.index()),

@@ -1,6 +1,6 @@
 // What stands in a field of a case, with zeros behind its end: numbers of 64 bits, a table, a state and amounts. Each call reads another
 // place of a field.
-ghost use Rattle.std.specs.Prelude.{◌≡◌, ◌+◌, ◌*◌, ◌^◌, ◌<◌};
+ghost use Rattle.std.specs.Prelude.{◌≡◌, ◌+◌, ◌*◌, ◌^◌, ◌<◌, length};
 ghost use Rattle.numbers.specs.Bytes.{u16s_at};
 ghost use Rattle.vectors.specs.Fields.{u64_at, u32s_at, table_at, state_in};
 
@@ -48,10 +48,12 @@ pub(crate) fn state_in(bytes: &[u8]) -> State
     }
 }
 
-// The amounts of 32 bits from a place on.
-pub(crate) fn amounts_at<const N: usize>(bytes: &[u8], at: usize) -> [u32; N]
-    requires { at + 4 * N < 2 ^ 64 }
-    ensures { result ≡ u32s_at bytes.now at N }
+// Reads the amounts of 32 bits from a place on, as many as there is room for.
+pub(crate) fn read_amounts(bytes: &[u8], at: usize, amounts: &mut [u32])
+    requires { at + 4 * length amounts.old < 2 ^ 64 }
+    ensures { amounts.new ≡ u32s_at bytes.now at (length amounts.old) }
 {
-    array::from_fn(|i| u32_at(bytes, at + 4 * i))
+    for i in 0..amounts.len() {
+        amounts[i] = u32_at(bytes, at + 4 * i);
+    }
 }
