@@ -11,8 +11,8 @@ use limits::Table;
 use manual::{Event, Moved, Variables, or_else};
 use shift::{Step, refusal};
 
-// The first of some events that is enabled, the last where none is. It takes them one by one: those of an array would all be laid there
-// before one is asked.
+// The first of some events that is enabled, the last where none is. By value, in nested calls: an array of events would be laid out whole
+// in memory, and copied.
 macro_rules! first_of {
     ($event:expr $(,)?) => { $event };
     ($event:expr, $($others:expr),+ $(,)?) => { or_else($event, first_of!($($others),+)) };

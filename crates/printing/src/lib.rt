@@ -34,7 +34,7 @@ impl<W> Line<W> {
         self.closed
     }
 
-    // Notes whether a write found that.
+    // Notes where a write found that nobody reads.
     fn note<T>(&mut self, written: &io::Result<T>)
         ensures { self.new.writer ≡ self.old.writer }
     {
