@@ -11,6 +11,7 @@ use Rattle.manual.proofs.early_by.Reads as early_by_reads
 use Rattle.manual.proofs.or_else.Reads as or_else_reads
 use Rattle.manual.proofs.Variables.erred.Reads as erred_reads
 use Rattle.manual.proofs.Event.free.Reads as free_reads
+use Rattle.manual.proofs.first_of.Reads as first_of_reads
 use Rattle.manual.proofs.Guard.past.Reads as guard_past_reads
 use Rattle.manual.proofs.past.Reads as past_reads
 use Rattle.manual.proofs.first_past.Reads as first_past_reads
@@ -43,6 +44,9 @@ erred κs a x y at at' p q = p ∙ sym q
 
 pub free : Determined free_reads.Post
 free κs a x y at at' p q = p ∙ sym q
+
+pub first_of : Determined first_of_reads.Post
+first_of κs a x y at at' p q = p ∙ sym q
 
 pub past : Determined past_reads.Post
 past κs a x y at at' p q = p ∙ sym q

@@ -5,9 +5,12 @@ ghost use Rattle.std.specs.Prelude.{◌≡◌, cond, ◌+◌, ◌-◌, leb, map,
 ghost use Rattle.std.specs.List.{find};
 ghost use Rattle.manual.specs.Variables.{initialisation};
 ghost use Rattle.manual.specs.Reset.{erred};
-ghost use Rattle.manual.specs.Events.{free, or_else};
+ghost use Rattle.manual.specs.Events.{free, or_else, first_of};
 ghost use Rattle.manual.specs.Ticks.{past, past_at, past_else};
 ghost use Rattle.manual.specs.Answers.{accepted, refused};
+
+#[cfg(test)]
+mod tests;
 
 // The variables of machine m9, in the manual's order.
 #[repr(C)]
@@ -243,6 +246,16 @@ pub fn or_else(a: Event, b: Event) -> Event
     ensures { result ≡ or_else a b }
 {
     if a.enabled { a } else { b }
+}
+
+// The first of some events that is enabled, the last where none is: of a list that the caller has. The engine, which knows its events one
+// by one, asks them by `or_else`, in nested calls.
+pub fn first_of(first: Event, others: &[Event]) -> Event
+    ensures { result ≡ first_of first others.now }
+{
+    others
+        .iter()
+        .fold(first, |found, event| or_else(found, *event))
 }
 
 impl Guard {
